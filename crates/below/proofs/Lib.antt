@@ -1,0 +1,6 @@
+pub mod Tests
+pub mod All
+pub mod Run
+pub mod Count
+pub mod Lists
+pub mod Bits

@@ -1,0 +1,17 @@
+-- `starts::start_fits` meets its contract, by the branch that was taken. Assumes nothing.
+use Rattle.below.proofs.Tests.{picks}
+use borrow.Author.Needs.{needs}
+use Rattle.views.proofs.starts.start_fits.Statement.{statement}
+use Rattle.views.proofs.starts.start_fits.Tie as tie
+
+contains-requires : tie.Need-contains-requires
+contains-requires c κs = search needs
+
+returns : tie.Need-returns
+returns c = search (needs, picks)
+
+returns-2 : tie.Need-returns-2
+returns-2 c = search (needs, picks)
+
+pub start-fits-spec : {M : Type 1} → statement M
+start-fits-spec = tie.close (tie.spec contains-requires returns returns-2)

@@ -1,0 +1,28 @@
+// Tests on cuts.
+ghost use mathlib.Core.Path.{_≡_};
+ghost use Rattle.views.specs.Sets.{has};
+ghost use Rattle.views.specs.Cuts.{countFits, cutOk};
+use crate::sets;
+use crate::Cut;
+
+fn count_fits(set: u8, n: u8, count: u8) -> bool
+    ensures { λ r. ⌜ r ≡ countFits (has set n) count ⌝ }
+{
+    if sets::contains(set, n) { count <= 128 } else { count == 0 }
+}
+
+impl Cut {
+    // Whether the cut is well formed for a view with this set.
+    pub fn well_formed(self, set: u8) -> bool
+        ensures { λ r. ⌜ r ≡ cutOk set self ⌝ }
+    {
+        let mut ok = true;
+        let mut n: u8 = 0;
+        while n < 8 {
+            let f = count_fits(set, n, self.counts[n as usize]);
+            ok = ok & f;
+            n += 1;
+        }
+        ok
+    }
+}

@@ -1,0 +1,87 @@
+// Tests on views.
+ghost use mathlib.Core.Path.{_≡_};
+ghost use Prim.Native.Nat.{_≤_};
+ghost use lib.ListN.{getD};
+ghost use Rattle.views.specs.Sets.{has};
+ghost use Rattle.views.specs.Views.{startFits, startsZero, startsFit, startsSame, viewOk, same as sameOf};
+use crate::sets;
+use crate::View;
+
+// Loops of eight with no way out but their end: a few vector instructions.
+fn starts_zero(starts: &[u32; 8]) -> bool
+    ensures { λ r. ⌜ r ≡ startsZero (now (starts .entry)) ⌝ }
+{
+    let mut ok = true;
+    let mut n: usize = 0;
+    while n < 8 {
+        let f = starts[n] == 0;
+        ok = ok & f;
+        n += 1;
+    }
+    ok
+}
+
+fn start_fits(set: u8, n: u8, start: u32) -> bool
+    ensures { λ r. ⌜ r ≡ startFits (has set n) start ⌝ }
+{
+    if sets::contains(set, n) { start != 0 } else { start == 0 }
+}
+
+fn starts_fit(set: u8, starts: &[u32; 8]) -> bool
+    ensures { λ r. ⌜ r ≡ startsFit set (now (starts .entry)) ⌝ }
+{
+    let mut ok = true;
+    let mut n: u8 = 0;
+    while n < 8 {
+        let f = start_fits(set, n, starts[n as usize]);
+        ok = ok & f;
+        n += 1;
+    }
+    ok
+}
+
+fn starts_same<'a>(a: &'a [u32; 8], b: &'a [u32; 8]) -> bool
+    ensures { λ r. ⌜ r ≡ startsSame (now (a .entry)) (now (b .entry)) ⌝ }
+{
+    let mut ok = true;
+    let mut n: usize = 0;
+    while n < 8 {
+        let x = a[n];
+        let f = x == b[n];
+        ok = ok & f;
+        n += 1;
+    }
+    ok
+}
+
+impl View {
+    // Whether the view is well formed.
+    pub fn well_formed(self) -> bool
+        ensures { λ r. ⌜ r ≡ viewOk self ⌝ }
+    {
+        if self.id == 0 {
+            if sets::size(self.set) != 1 {
+                return false;
+            }
+            starts_zero(&self.starts)
+        } else {
+            if self.set == 0 {
+                return false;
+            }
+            starts_fit(self.set, &self.starts)
+        }
+    }
+
+    // Whether two views are the same: all three parts are.
+    pub fn same(self, other: View) -> bool
+        ensures { λ r. ⌜ r ≡ sameOf self other ⌝ }
+    {
+        if self.id != other.id {
+            return false;
+        }
+        if self.set != other.set {
+            return false;
+        }
+        starts_same(&self.starts, &other.starts)
+    }
+}
