@@ -1,14 +1,14 @@
 -- The laws of what is done at each number below n: `times`, `foldBelow`, and the lists that are filled, changed in each place, joined and made.
 -- At none, at one more, lengths, places. Assumes nothing.
 use Prim.Native.Nat.{ℕ, zero, suc, _+_, _*_, _≤_, _<_}
-use native.Mathlib.Nat.{eq-or-lt-of-le}
+use native.Mathlib.Nat.{eq-or-lt-of-le, le-antisymm}
 use native.Mathlib.Numerals.{add-one}
 use native.Mathlib.Omega.{arith}
-use mathlib.Core.List.{List, [], _∷_, _++_, append-assoc}
+use mathlib.Core.List.{List, [], _∷_, _++_}
 use mathlib.Core.Path.{_≡_, refl, sym, ap, _∙_}
 use mathlib.Core.Logic.{⊎-elim}
-use lib.ListN.{length, take, drop, set, getD, length-set, length-append, length-drop, List·getD-append}
-use lib.Seq.{getD-set-same, getD-set-other, set-at, drop-cons, getD-at, ext-getD}
+use lib.ListN.{length, set, getD, replicate, length-set, length-append, length-replicate, List·getD-append}
+use lib.Seq.{getD-set-same, getD-set-other, getD-at, ext-getD}
 use Rattle.below.specs.Below.{times, foldBelow, fillBelow, eachBelow, joinBelow, listBelow}
 
 pub times-none : {A : Type 0} (f : A → A) (a : A) → a ≡ times f a 0
@@ -110,3 +110,18 @@ module _ {A : Type 0} (f : ℕ → A) where
       ext-getD d (fillBelow f l n) (listBelow f n)
       (fill-length f l n ∙ e ∙ sym (list-length n))
       (λ i h. let g : i < n = omega (arith, fill-length f l n) in fill-below f l n i d g (omega arith) ∙ sym (list-at n i d g))
+
+-- ---- `let mut l = [0; n]; while i < n { l[i] = g(..); i += 1; } l`: m is l after i turns
+
+module _ {A : Type 0} (f : ℕ → A) (z : A) (n : ℕ) where
+  pub filled-none : replicate n z ≡ fillBelow f (replicate n z) 0
+  filled-none = fill-none f (replicate n z)
+
+  pub filled-more : (m : List A) (i : ℕ) (v : A) → m ≡ fillBelow f (replicate n z) i → v ≡ f i → set m i v ≡ fillBelow f (replicate n z) (i + 1)
+  filled-more m i v a b = fill-step f (replicate n z) m i v a b
+
+  pub filled-end : (m : List A) (i : ℕ) → i ≤ n → n ≤ i → m ≡ fillBelow f (replicate n z) i → m ≡ listBelow f n
+  filled-end m i a b e =
+      (rw (le-antisymm a b) at e) ∙ fill-list f z (replicate n z) n (length-replicate n z)
+
+pub ruleset fills = (filled-none, filled-more, filled-end)

@@ -10,8 +10,8 @@ use Rattle.views.specs.Sets.{has, size}
 use Rattle.views.specs.declared.View.{View}
 
 -- "all start numbers 0"
-unfoldable pub startsZero : List ℕ → Bool
-startsZero starts = allBelow (λ n. eqb (getD starts n 0) 0) 8
+unfoldable pub allZero : List ℕ → Bool
+allZero xs = allBelow (λ n. eqb (getD xs n 0) 0) 8
 
 -- a member's start number is at least 1, a non-member's 0
 abbrev pub startFits : Bool → ℕ → Bool
@@ -23,7 +23,7 @@ startsFit set starts = allBelow (λ n. startFits (has set n) (getD starts n 0)) 
 
 -- "Well formed: either id 0, exactly one member, all start numbers 0 (that member's initial view); or id at least 1, a non-empty set, each member's start number at least 1."
 unfoldable pub viewOk : View → Bool
-viewOk v = cond (eqb (v .id) 0) (eqb (size (v .set)) 1 && startsZero (v .starts)) (not (eqb (v .set) 0) && startsFit (v .set) (v .starts))
+viewOk v = cond (eqb (v .id) 0) (eqb (size (v .set)) 1 && allZero (v .starts)) (not (eqb (v .set) 0) && startsFit (v .set) (v .starts))
 
 unfoldable pub startsSame : List ℕ → List ℕ → Bool
 startsSame a b = allBelow (λ n. eqb (getD a n 0) (getD b n 0)) 8

@@ -3,6 +3,7 @@
 pub mod sets;
 mod counts;
 mod starts;
+pub use starts::starts_zero;
 
 // The start numbers stand first: the id and the set then share the last words.
 #[repr(C)]

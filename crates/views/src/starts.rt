@@ -3,13 +3,13 @@ ghost use mathlib.Core.Path.{_≡_};
 ghost use Prim.Native.Nat.{_≤_};
 ghost use lib.ListN.{getD};
 ghost use Rattle.views.specs.Sets.{has};
-ghost use Rattle.views.specs.Views.{startFits, startsZero, startsFit, startsSame, viewOk, same as sameOf};
+ghost use Rattle.views.specs.Views.{startFits, allZero, startsFit, startsSame, viewOk, same as sameOf};
 use crate::sets;
 use crate::View;
 
-// Loops of eight with no way out but their end: a few vector instructions.
-fn starts_zero(starts: &[u32; 8]) -> bool
-    ensures { λ r. ⌜ r ≡ startsZero (now (starts .entry)) ⌝ }
+// Whether all start numbers are 0. The loops of eight have no way out but their end: a few vector instructions.
+pub fn starts_zero(starts: &[u32; 8]) -> bool
+    ensures { λ r. ⌜ r ≡ allZero (now (starts .entry)) ⌝ }
 {
     let mut ok = true;
     let mut n: usize = 0;

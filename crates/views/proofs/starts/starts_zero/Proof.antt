@@ -6,7 +6,7 @@ use mathlib.Core.Path.{_≡_}
 use Prim.Native.Nat.{_≤_, _-_}
 use lib.ListN.{getD}
 use lib.Dec.{eqb}
-use Rattle.views.specs.Views.{startsZero}
+use Rattle.views.specs.Views.{allZero}
 use Rattle.views.proofs.starts.starts_zero.Statement.{statement}
 use Rattle.views.proofs.starts.starts_zero.Tie as tie
 
@@ -35,7 +35,7 @@ loop-again : tie.Need-loop-again Inv-loop μ-loop
 loop-again c = search (needs, alls)
 
 returns : tie.Need-returns Inv-loop μ-loop
-unfolding startsZero
+unfolding allZero
 returns c = search (needs, alls)
 
 pub starts-zero-spec : {M : Type 1} → statement M

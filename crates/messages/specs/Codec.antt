@@ -1,0 +1,55 @@
+-- Reading and writing. "Reading any other bytes, or writing a malformed value or into too short an area, is refused with 1; bytes after the written ones stay."
+-- That a message reads back as it was written, and that nothing else reads, is proved of these in proofs/Trip. Assumes nothing.
+use Prim.Native.Nat.{ℕ, _+_}
+use mathlib.Core.Bool.{Bool, cond, _&&_}
+use mathlib.Core.List.{List, _++_}
+use lib.Dec.{eqb, leb}
+use lib.ListN.{length, getD, drop}
+use Rattle.messages.specs.declared.Message.{Message}
+use Rattle.messages.specs.declared.Reading.{Reading}
+use Rattle.messages.specs.Bytes.{numberAt, viewAt, cutAt}
+use Rattle.messages.specs.Messages.{blank, noView, noCut}
+use Rattle.messages.specs.Layouts.{hasNumber, hasPlace, hasView, hasCut, hasWord, hasSet, bytesOf, lengthOf, wellFormed}
+
+-- where the parts of a kind stand: behind the first byte and the parts before them
+abbrev pub viewPlace : ℕ → ℕ
+viewPlace k = cond (hasNumber k) 5 (cond (hasPlace k) 3 1)
+
+abbrev pub wordPlace : ℕ → ℕ
+wordPlace k = cond (hasView k) 40 1
+
+-- the message that these bytes are, if they are one
+unfoldable pub messageAt : List ℕ → ℕ → Message
+messageAt bs k =
+    record {
+      view = cond (hasView k) (viewAt bs (viewPlace k)) noView;
+      word = cond (hasWord k) (numberAt 8 bs (wordPlace k)) 0;
+      number = cond (hasNumber k) (numberAt 4 bs 1) 0;
+      cut = cond (hasCut k) (cutAt bs 42) noCut;
+      kind = k;
+      set = cond (hasSet k) (numberAt 1 bs 5) 0;
+      sender = cond (hasPlace k) (numberAt 1 bs 1) 0;
+      index = cond (hasPlace k) (numberAt 1 bs 2) 0;
+    }
+
+-- these bytes are a message
+unfoldable pub reads : List ℕ → Bool
+reads bs = eqb (length bs) (lengthOf (getD bs 0 0)) && wellFormed (messageAt bs (getD bs 0 0))
+
+-- accepted with the message, or refused with 1
+unfoldable pub readOf : List ℕ → Reading
+readOf bs =
+    cond (reads bs)
+    (record { message = messageAt bs (getD bs 0 0); number = 0 })
+    (record { message = blank 0; number = 1 })
+
+-- the message can be written into this area
+unfoldable pub writes : Message → List ℕ → Bool
+writes m area = wellFormed m && leb (lengthOf (m .kind)) (length area)
+
+unfoldable pub writeNumber : Message → List ℕ → ℕ
+writeNumber m area = cond (writes m area) 0 1
+
+-- the area after: the message at its start and the bytes after it as they were, or all as it was
+unfoldable pub written : Message → List ℕ → List ℕ
+written m area = cond (writes m area) (bytesOf m ++ drop (lengthOf (m .kind)) area) area

@@ -1,0 +1,4 @@
+pub mod Bytes
+pub mod Messages
+pub mod Layouts
+pub mod Codec

@@ -1,0 +1,30 @@
+// The six kinds of message in bytes: what a message is, the reader and the writer. Each public function takes any values, and its promise fixes its answer and every lent byte.
+ghost use mathlib.Core.Path.{_≡_};
+use views::{Cut, View};
+
+mod get;
+mod put;
+mod parts;
+mod made;
+mod codec;
+// pub use codec::{length_of, read, write};
+
+// What a kind does not have is 0.
+#[repr(C)]
+pub struct Message {
+    pub view: View,
+    pub word: u64,
+    pub number: u32,
+    pub cut: Cut,
+    pub kind: u8,
+    pub set: u8,
+    pub sender: u8,
+    pub index: u8,
+}
+
+// What reading gives: 0 and the message, or 1 and a blank one.
+#[repr(C)]
+pub struct Reading {
+    pub message: Message,
+    pub number: u8,
+}
