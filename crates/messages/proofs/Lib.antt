@@ -1,2 +1,4 @@
 pub mod Numbers
 pub mod Stores
+pub mod Arms
+pub mod Answers

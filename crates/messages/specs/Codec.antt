@@ -36,12 +36,13 @@ messageAt bs k =
 unfoldable pub reads : List ℕ → Bool
 reads bs = eqb (length bs) (lengthOf (getD bs 0 0)) && wellFormed (messageAt bs (getD bs 0 0))
 
+-- a refusal gives only its number
+abbrev pub refused : Reading
+refused = record { message = blank 0; number = 1 }
+
 -- accepted with the message, or refused with 1
 unfoldable pub readOf : List ℕ → Reading
-readOf bs =
-    cond (reads bs)
-    (record { message = messageAt bs (getD bs 0 0); number = 0 })
-    (record { message = blank 0; number = 1 })
+readOf bs = cond (reads bs) (record { message = messageAt bs (getD bs 0 0); number = 0 }) refused
 
 -- the message can be written into this area
 unfoldable pub writes : Message → List ℕ → Bool

@@ -35,16 +35,19 @@ hasSet k = eqb k 5
 abbrev pub part : Bool → List ℕ → List ℕ
 part b bs = cond b bs []
 
--- "First byte is the kind." Then the parts that it has, in this order
-unfoldable pub bytesOf : Message → List ℕ
-bytesOf m =
-    m .kind
-    ∷ (part (hasNumber (m .kind)) (le 4 (m .number))
+-- the parts that a message's kind has, in the order in which they stand
+unfoldable pub body : Message → List ℕ
+body m =
+    part (hasNumber (m .kind)) (le 4 (m .number))
     ++ (part (hasPlace (m .kind)) (le 1 (m .sender) ++ le 1 (m .index))
     ++ (part (hasView (m .kind)) (viewBody (m .view))
     ++ (part (hasCut (m .kind)) (cutBytes (m .cut))
     ++ (part (hasWord (m .kind)) (le 8 (m .word))
-    ++ part (hasSet (m .kind)) (le 1 (m .set)))))))
+    ++ part (hasSet (m .kind)) (le 1 (m .set))))))
+
+-- "First byte is the kind."
+unfoldable pub bytesOf : Message → List ℕ
+bytesOf m = m .kind ∷ body m
 
 -- "1 view: 38 in all. 2 word: 9. 3 sync: 50. 4 forward: 48. 5 start change: 6. 6 membership view: 38." No other number is a kind.
 unfoldable pub lengthOf : ℕ → ℕ

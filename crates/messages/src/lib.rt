@@ -7,7 +7,7 @@ mod put;
 mod parts;
 mod made;
 mod codec;
-// pub use codec::{length_of, read, write};
+pub use codec::{length_of, read, write};
 
 // What a kind does not have is 0.
 #[repr(C)]

@@ -1,0 +1,6 @@
+pub mod Beyond
+pub mod Bits
+pub mod Halves
+pub mod Packing
+pub mod Sender
+pub mod Slot

@@ -1,0 +1,4 @@
+pub mod Beyond
+pub mod Bits
+pub mod Held
+pub mod Marks
