@@ -2,3 +2,4 @@ pub mod Numbers
 pub mod Stores
 pub mod Arms
 pub mod Answers
+pub mod Trip

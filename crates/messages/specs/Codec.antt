@@ -12,24 +12,33 @@ use Rattle.messages.specs.Messages.{blank, noView, noCut}
 use Rattle.messages.specs.Layouts.{hasNumber, hasPlace, hasView, hasCut, hasWord, hasSet, bytesOf, lengthOf, wellFormed}
 
 -- where the parts of a kind stand: behind the first byte and the parts before them
-abbrev pub viewPlace : ℕ → ℕ
-viewPlace k = cond (hasNumber k) 5 (cond (hasPlace k) 3 1)
+abbrev pub afterNumber : ℕ → ℕ
+afterNumber k = 1 + cond (hasNumber k) 4 0
 
-abbrev pub wordPlace : ℕ → ℕ
-wordPlace k = cond (hasView k) 40 1
+abbrev pub afterPlace : ℕ → ℕ
+afterPlace k = afterNumber k + cond (hasPlace k) 2 0
 
--- the message that these bytes are, if they are one
+abbrev pub afterView : ℕ → ℕ
+afterView k = afterPlace k + cond (hasView k) 37 0
+
+abbrev pub afterCut : ℕ → ℕ
+afterCut k = afterView k + cond (hasCut k) 8 0
+
+abbrev pub afterWord : ℕ → ℕ
+afterWord k = afterCut k + cond (hasWord k) 8 0
+
+-- the message of this kind that the bytes are, if they are one
 unfoldable pub messageAt : List ℕ → ℕ → Message
 messageAt bs k =
     record {
-      view = cond (hasView k) (viewAt bs (viewPlace k)) noView;
-      word = cond (hasWord k) (numberAt 8 bs (wordPlace k)) 0;
+      view = cond (hasView k) (viewAt bs (afterPlace k)) noView;
+      word = cond (hasWord k) (numberAt 8 bs (afterCut k)) 0;
       number = cond (hasNumber k) (numberAt 4 bs 1) 0;
-      cut = cond (hasCut k) (cutAt bs 42) noCut;
+      cut = cond (hasCut k) (cutAt bs (afterView k)) noCut;
       kind = k;
-      set = cond (hasSet k) (numberAt 1 bs 5) 0;
-      sender = cond (hasPlace k) (numberAt 1 bs 1) 0;
-      index = cond (hasPlace k) (numberAt 1 bs 2) 0;
+      set = cond (hasSet k) (numberAt 1 bs (afterWord k)) 0;
+      sender = cond (hasPlace k) (numberAt 1 bs (afterNumber k)) 0;
+      index = cond (hasPlace k) (numberAt 1 bs (afterNumber k + 1)) 0;
     }
 
 -- these bytes are a message
