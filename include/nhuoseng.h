@@ -7,10 +7,17 @@
  *
  *     uint64_t m[NH_FIELDS] = { [NH_KIND] = NH_WORD, [NH_THE_WORD] = 7 };
  *
- * Every call takes any values: none has to be checked first. Every call
- * answers with a number: 0 is accepted, 1 is refused, and a refused call has
- * changed nothing. A pointer points to as many bytes or numbers as the count
- * after it says, and what a call writes overlaps nothing else that it is lent.
+ * nh_read and nh_write take any values: nothing has to be checked first. They
+ * answer 0, accepted, or 1, refused, and a refused call has changed nothing.
+ * A pointer points to as many bytes or numbers as the count after it says, is
+ * not NULL even where the count is 0, and what a call writes overlaps nothing
+ * else that it is lent.
+ *
+ * A view is an id, a set of members and eight start numbers. It is well formed
+ * with id 0, exactly one member and all start numbers 0; or with an id of 1 or
+ * more, at least one member, and a start number of 1 or more for each member.
+ * The start number of one who is no member is 0. A cut is well formed for its
+ * message's view where each member's count is 0 to 128 and any other's is 0.
  *
  * Link with libnhuoseng.a.
  */
