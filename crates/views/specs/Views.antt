@@ -4,10 +4,22 @@ use Prim.Native.Nat.{ℕ}
 use mathlib.Core.Bool.{Bool, not, cond, _&&_}
 use mathlib.Core.List.{List}
 use lib.Dec.{eqb}
-use lib.ListN.{getD}
+use lib.ListN.{getD, replicate}
 use Rattle.below.specs.Below.{allBelow}
-use Rattle.views.specs.Sets.{has, size}
+use Rattle.views.specs.Sets.{has, size, only}
 use Rattle.views.specs.declared.View.{View}
+
+-- no view: what stands where there is none
+abbrev pub noView : View
+noView = record { starts = replicate 8 0; id = 0; set = 0 }
+
+-- "that member's initial view": id 0, exactly one member, all start numbers 0
+abbrev pub initial : ℕ → View
+initial p = record { starts = replicate 8 0; id = 0; set = only p }
+
+-- the start number of member n in a view
+unfoldable pub startOf : View → ℕ → ℕ
+startOf v n = getD (v .starts) n 0
 
 -- "all start numbers 0"
 unfoldable pub allZero : List ℕ → Bool

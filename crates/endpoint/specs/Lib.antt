@@ -1,0 +1,15 @@
+pub mod State
+pub mod Fresh
+pub mod Numbers
+pub mod Spent
+pub mod Ready
+pub mod Due
+pub mod Sound
+pub mod Application
+pub mod Membership
+pub mod Receive
+pub mod Change
+pub mod Forward
+pub mod Give
+pub mod Install
+pub mod Steps
