@@ -6,10 +6,9 @@ use lib.Dec.{eqb}
 use lib.ListN.{length, set}
 use Rattle.slots.specs.Slots.{place, slotOf, run, markWord}
 use Rattle.endpoint.specs.declared.EndPoint.{EndPoint}
-use Rattle.endpoint.specs.declared.Answer.{Answer}
 use Rattle.endpoint.specs.State.{withSlots, withChange, withBlock, isAsked, isBlocked}
 use Rattle.endpoint.specs.Sound.{sound}
-use Rattle.endpoint.specs.Numbers.{Check, check, accepted, settle, settleArea}
+use Rattle.endpoint.specs.Numbers.{Check, check}
 
 -- 1 in every step that takes the word area: "an unsound end-point, .. a word area of another length"
 unfoldable pub unfit : EndPoint → List ℕ → Bool
@@ -24,12 +23,16 @@ unfoldable pub sendChecks : EndPoint → List ℕ → List Check
 sendChecks e area = check 1 (unfit e area) ∷ check 5 (isBlocked e) ∷ check 6 (eqb (ownRun e) 128) ∷ []
 
 -- "Appends the word to p's own in the current view."
-unfoldable pub send : EndPoint → List ℕ → ℕ → Answer
-send e area w = settle (sendChecks e area) e (accepted (withSlots (markWord (e .slots) (e .current) (e .me) (ownRun e + 1)) e))
+unfoldable pub afterSend : EndPoint → EndPoint
+afterSend e = withSlots (markWord (e .slots) (e .current) (e .me) (ownRun e + 1)) e
 
-unfoldable pub sendArea : EndPoint → List ℕ → ℕ → List ℕ
-sendArea e area w = settleArea (sendChecks e area) area (set area (place (slotOf (e .slots) (e .current)) (e .me) (ownRun e + 1)) w)
+unfoldable pub areaAfterSend : EndPoint → List ℕ → ℕ → List ℕ
+areaAfterSend e area w = set area (place (slotOf (e .slots) (e .current)) (e .me) (ownRun e + 1)) w
 
--- "Block-ok: 4 unless asked. Becomes blocked."
-unfoldable pub blockOk : EndPoint → Answer
-blockOk e = settle (check 1 (not (sound e)) ∷ check 4 (not (isAsked e)) ∷ []) e (accepted (withChange (withBlock 2 (e .change)) e))
+-- "Block-ok: 4 unless asked."
+unfoldable pub blockOkChecks : EndPoint → List Check
+blockOkChecks e = check 1 (not (sound e)) ∷ check 4 (not (isAsked e)) ∷ []
+
+-- "Becomes blocked."
+unfoldable pub afterBlockOk : EndPoint → EndPoint
+afterBlockOk e = withChange (withBlock 2 (e .change)) e

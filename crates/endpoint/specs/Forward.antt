@@ -15,7 +15,7 @@ use Rattle.endpoint.specs.Fresh.{noMarks}
 use Rattle.endpoint.specs.Ready.{ready, unnamed}
 use Rattle.endpoint.specs.Due.{lowestDue}
 use Rattle.endpoint.specs.Application.{unfit}
-use Rattle.endpoint.specs.Numbers.{check, sends, settle}
+use Rattle.endpoint.specs.Numbers.{Check, check, sends}
 
 -- the index of the lowest held word of r that is due to q above the mark
 unfoldable pub dueIndex : EndPoint → ℕ → ℕ → ℕ
@@ -25,15 +25,17 @@ dueIndex e q r = lowestDue e q r + 1
 unfoldable pub raised : EndPoint → ℕ → ℕ → ℕ → List Row
 raised e q r i = set (e .forwarded) q (record { marks = set (getD (e .forwarded) q noMarks .marks) r i })
 
--- "Forward (q, r): 1; 4 unless ready; 9; 10 if no held word of r is due to q above the mark. Sends the lowest such, raises the mark to it."
-unfoldable pub forward : EndPoint → List ℕ → ℕ → ℕ → Answer
-forward e area q r =
-    settle
-    (check 1 (unfit e area || (not (leb q 7) || not (leb r 7)))
+-- "Forward (q, r): 1; 4 unless ready; 9; 10 if no held word of r is due to q above the mark."
+unfoldable pub forwardOutChecks : EndPoint → List ℕ → ℕ → ℕ → List Check
+forwardOutChecks e area q r =
+    check 1 (unfit e area || (not (leb q 7) || not (leb r 7)))
     ∷ check 4 (not (ready e))
     ∷ check 9 (unnamed e)
     ∷ check 10 (not (ltb (lowestDue e q r) 128))
-    ∷ [])
-    e
-    (sends (withForwarded (raised e q r (dueIndex e q r)) e) (only q)
-    (ofForward r (dueIndex e q r) (e .current) (getD area (place (slotOf (e .slots) (e .current)) r (dueIndex e q r)) 0)))
+    ∷ []
+
+-- "Sends the lowest such, raises the mark to it."
+unfoldable pub forwards : EndPoint → List ℕ → ℕ → ℕ → Answer
+forwards e area q r =
+    sends (withForwarded (raised e q r (dueIndex e q r)) e) (only q)
+    (ofForward r (dueIndex e q r) (e .current) (getD area (place (slotOf (e .slots) (e .current)) r (dueIndex e q r)) 0))

@@ -13,7 +13,7 @@ use Rattle.endpoint.specs.declared.Answer.{Answer}
 use Rattle.endpoint.specs.State.{withGiven, isPending}
 use Rattle.endpoint.specs.Ready.{ready, agreed}
 use Rattle.endpoint.specs.Application.{unfit}
-use Rattle.endpoint.specs.Numbers.{check, gives, settle}
+use Rattle.endpoint.specs.Numbers.{Check, check, gives, settle}
 
 -- the index of the next word of q
 unfoldable pub nextGiven : EndPoint → ℕ → ℕ
@@ -31,17 +31,23 @@ nothingNext e q = not (heldWord (e .slots) (e .current) q (nextGiven e q)) || (e
 unfoldable pub beyondCut : EndPoint → ℕ → Bool
 beyondCut e q = isPending e && (holdsRecord (e .records) (e .me) (e .change .number) && ltb (limit e q) (nextGiven e q))
 
--- "Give out from q: 1; 2 if q is not in the current view; 10 ..; 11 .. Gives the word."
-unfoldable pub giveOut : EndPoint → List ℕ → ℕ → Answer
-giveOut e area q =
-    settle
-    (check 1 (unfit e area || not (leb q 7))
+-- "Give out from q: 1; 2 if q is not in the current view; 10 ..; 11 .."
+unfoldable pub giveChecks : EndPoint → List ℕ → ℕ → List Check
+giveChecks e area q =
+    check 1 (unfit e area || not (leb q 7))
     ∷ check 2 (not (has (e .current .set) q))
     ∷ check 10 (nothingNext e q)
     ∷ check 11 (beyondCut e q)
-    ∷ [])
-    e
-    (gives (withGiven (set (e .given) q (nextGiven e q)) e) (getD area (place (slotOf (e .slots) (e .current)) q (nextGiven e q)) 0))
+    ∷ []
+
+-- "Gives the word."
+unfoldable pub givesNext : EndPoint → List ℕ → ℕ → Answer
+givesNext e area q =
+    gives (withGiven (set (e .given) q (nextGiven e q)) e) (getD area (place (slotOf (e .slots) (e .current)) q (nextGiven e q)) 0)
+
+-- a single give-out
+unfoldable pub giveOne : EndPoint → List ℕ → ℕ → Answer
+giveOne e area q = settle (giveChecks e area q) e (givesNext e area q)
 
 -- ---- "A batch gives out as many words as a lent area has room for."
 
@@ -53,7 +59,7 @@ pub record Given : Type 0 where
 unfoldable pub giveMany : EndPoint → List ℕ → ℕ → ℕ → Given
 giveMany e area q zero = record { ep = e; words = [] }
 giveMany e area q (suc n) =
-    let a = giveOut e area q in
+    let a = giveOne e area q in
     let more = giveMany (a .ep) area q n in
     elim (eqb (a .number) 0) [
       true ↦ record { ep = more .ep; words = a .word ∷ more .words }
@@ -62,7 +68,7 @@ giveMany e area q (suc n) =
 
 -- "Refused with 1 or 2 as a give-out is"; "10 or 11 merely ends it"
 unfoldable pub batchNumber : EndPoint → List ℕ → ℕ → ℕ
-batchNumber e area q = cond (leb (giveOut e area q .number) 2) (giveOut e area q .number) 0
+batchNumber e area q = cond (leb (giveOne e area q .number) 2) (giveOne e area q .number) 0
 
 -- what a batch with this much room gives out: nothing where it is refused
 unfoldable pub batch : EndPoint → List ℕ → ℕ → ℕ → Given

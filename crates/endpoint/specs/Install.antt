@@ -10,13 +10,12 @@ use Rattle.slots.specs.declared.Slots.{Slots}
 use Rattle.slots.specs.Slots.{freed, withSlot}
 use Rattle.endpoint.specs.declared.Change.{Change}
 use Rattle.endpoint.specs.declared.EndPoint.{EndPoint}
-use Rattle.endpoint.specs.declared.Answer.{Answer}
 use Rattle.endpoint.specs.State.{withSlots, withChange, withCurrent, withTold, withGiven}
 use Rattle.endpoint.specs.Spent.{spentBy}
-use Rattle.endpoint.specs.Ready.{ready, unnamed, agreed, T}
+use Rattle.endpoint.specs.Ready.{ready, unnamed, agreed}
 use Rattle.endpoint.specs.Due.{owes}
 use Rattle.endpoint.specs.Sound.{sound}
-use Rattle.endpoint.specs.Numbers.{check, installs, settle}
+use Rattle.endpoint.specs.Numbers.{Check, check}
 
 -- f holds of each member of the current view
 unfoldable pub allMembers : EndPoint → (ℕ → Bool) → Bool
@@ -43,16 +42,13 @@ unfoldable pub afterInstall : EndPoint → EndPoint
 afterInstall e =
     withCurrent (e .membership) (withSlots (slotsAfter e) (withGiven (replicate 8 0) (withTold 0 0 (withChange (settled (e .change)) e))))
 
--- "Install: 4 unless ready; 9; 12; 13; 15. Answers the view and T."
-unfoldable pub install : EndPoint → Answer
-install e =
-    settle
-    (check 1 (not (sound e))
+-- "Install: 4 unless ready; 9; 12; 13; 15."
+unfoldable pub installChecks : EndPoint → List Check
+installChecks e =
+    check 1 (not (sound e))
     ∷ check 4 (not (ready e))
     ∷ check 9 (unnamed e)
     ∷ check 12 (owes e)
     ∷ check 13 (fewer e)
     ∷ check 15 (more e)
-    ∷ [])
-    e
-    (installs (afterInstall e) (e .membership) (T e))
+    ∷ []

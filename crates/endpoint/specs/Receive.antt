@@ -13,12 +13,11 @@ use Rattle.records.specs.declared.Record.{Record}
 use Rattle.records.specs.Records.{newest, storeRecord}
 use Rattle.slots.specs.Slots.{place, slotOf, hasSlot, heldWord, markWord, hasFree, taken}
 use Rattle.endpoint.specs.declared.EndPoint.{EndPoint}
-use Rattle.endpoint.specs.declared.Answer.{Answer}
 use Rattle.endpoint.specs.State.{withSlots, withHeard, withRecords}
 use Rattle.endpoint.specs.Spent.{spent}
 use Rattle.endpoint.specs.Sound.{heardFrom}
 use Rattle.endpoint.specs.Application.{unfit}
-use Rattle.endpoint.specs.Numbers.{Check, check, accepted, settle, settleArea}
+use Rattle.endpoint.specs.Numbers.{Check, check}
 
 -- 1: "a member number above 7, a malformed .. message .., or a message from oneself"; "Kinds 5 and 6 given to Receive are malformed there"
 unfoldable pub unreceivable : EndPoint → List ℕ → ℕ → Message → Bool
@@ -111,12 +110,8 @@ receiveChecks e area q m =
     check 1 (unreceivable e area q m)
     ∷ byKind (m .kind) (viewChecks e q (m .view)) (wordChecks e area q (m .word)) (syncChecks e q m) (forwardChecks e area q m)
 
-unfoldable pub receive : EndPoint → List ℕ → ℕ → Message → Answer
-receive e area q m =
-    settle (receiveChecks e area q m) e
-    (accepted (byKind (m .kind) (afterView e q (m .view)) (afterWord e q) (afterSync e q m) (afterForward e m)))
+unfoldable pub afterReceive : EndPoint → ℕ → Message → EndPoint
+afterReceive e q m = byKind (m .kind) (afterView e q (m .view)) (afterWord e q) (afterSync e q m) (afterForward e m)
 
-unfoldable pub receiveArea : EndPoint → List ℕ → ℕ → Message → List ℕ
-receiveArea e area q m =
-    settleArea (receiveChecks e area q m) area
-    (byKind (m .kind) area (areaAfterWord e area q (m .word)) area (areaAfterForward e area m))
+unfoldable pub areaAfterReceive : EndPoint → List ℕ → ℕ → Message → List ℕ
+areaAfterReceive e area q m = byKind (m .kind) area (areaAfterWord e area q (m .word)) area (areaAfterForward e area m)
