@@ -13,3 +13,4 @@ pub mod Forward
 pub mod Give
 pub mod Install
 pub mod Steps
+pub mod Opened

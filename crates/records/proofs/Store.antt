@@ -1,14 +1,14 @@
 -- What `storeRecord` does: the lengths stay, the other senders' records stay, and of r's own what the rule of four says.
--- First the shape; then the two cases, fewer than four held and four held; then both in one, `Kept`, from which all else about r's records follows:
--- what each held record has, and the new one has, each has afterwards. Assumes nothing.
+-- First the words: `Shaped`, and what each held record of a sender has; then the two cases, fewer than four held and four held; then both in one, `Kept`,
+-- from which all else about r's records follows: what each held record has, and the new one has, each has afterwards. Assumes nothing.
 use Prim.Native.Nat.{ℕ, zero, suc, _+_, _*_, _≤_, _<_}
 use native.Mathlib.Nat.{eq-or-lt-of-le, add-zero}
 use native.Mathlib.Omega.{arith}
-use mathlib.Core.Bool.{Bool, true, false, cond}
+use mathlib.Core.Bool.{Bool, true, false}
 use mathlib.Core.List.{List}
 use mathlib.Core.Path.{_≡_, refl, sym, ap, _∙_}
 use mathlib.Core.Logic.{_⊎_, inl, inr, ⊎-elim, _≢_}
-use lib.Dec.{eqb, ltb}
+use lib.Dec.{eqb}
 use lib.ListN.{length, set, getD, length-set}
 use lib.Seq.{getD-set-same, getD-set-other}
 use borrow.Author.Tests.{lt-ltb, le-ltb, eqb-true, eqb-false}
@@ -23,6 +23,14 @@ use Rattle.records.specs.Records.{noRecord, recordAt, recordCount, store
 pub record Shaped (rs : Records) : Type 0 where
   pub held-length : length (rs .held) ≡ 32
   pub counts-length : length (rs .counts) ≡ 8
+
+-- each held record of r has P
+abbrev pub Each : (Record → Type 0) → Records → ℕ → Type 0
+Each P rs r = (k : ℕ) → k < recordCount rs r → P (recordAt rs r k)
+
+-- each held record of r passes f
+abbrev pub each : (Record → Bool) → Records → ℕ → Bool
+each f rs r = allBelow (λ k. f (recordAt rs r k)) (recordCount rs r)
 
 -- two senders are the same, or not
 pub same-or-not : (s r : ℕ) → (s ≡ r) ⊎ (s ≢ r)
@@ -106,7 +114,9 @@ module _ (rs : Records) (r : ℕ) (x : Record) where
   record-other s k ne l =
       ⊎-elim
       (λ h. rw (is-added h) (getD-set-other (rs .held) (r * 4 + recordCount rs r) (s * 4 + k) x noRecord (omega arith)))
-      (λ h. rw (is-moved h) (written-other (rs .held) (r * 4) (s * 4 + k) (recordAt rs r 1) (recordAt rs r 2) (recordAt rs r 3) x (omega arith) (omega arith) (omega arith) (omega arith)))
+      (λ h. rw (is-moved h)
+      (written-other (rs .held) (r * 4) (s * 4 + k) (recordAt rs r 1) (recordAt rs r 2) (recordAt rs r 3) x
+      (omega arith) (omega arith) (omega arith) (omega arith)))
       (side (recordCount rs r) 4)
 
   -- ---- r's own records, fewer than four held: one more, at the end
@@ -182,27 +192,29 @@ store-kept rs r x w b c = ⊎-elim few four (side (recordCount rs r) 4)
 
 -- ---- what each held record of a sender has, and the new one has, each has afterwards
 
-module _ (rs : Records) (r : ℕ) (x : Record) (P : Record → Type 0) where
-  pub store-has : Shaped rs → r < 8 → recordCount rs r ≤ 4 → ((k : ℕ) → k < recordCount rs r → P (recordAt rs r k)) → P x → (k : ℕ) → k < recordCount (storeRecord rs r x) r → P (recordAt (storeRecord rs r x) r k)
-  store-has w b c h p k l =
+pub each-of : (f : Record → Bool) (rs : Records) (r : ℕ) → Each (λ y. f y ≡ true) rs r → each f rs r ≡ true
+each-of f rs r h = all-of (λ k. f (recordAt rs r k)) (recordCount rs r) h
+
+pub each-says : (f : Record → Bool) (rs : Records) (r : ℕ) → each f rs r ≡ true → Each (λ y. f y ≡ true) rs r
+each-says f rs r e k l = all-each (λ j. f (recordAt rs r j)) (recordCount rs r) k l e
+
+module _ (rs : Records) (r : ℕ) (x : Record) (w : Shaped rs) (b : r < 8) (c : recordCount rs r ≤ 4) where
+  pub store-has : (P : Record → Type 0) → Each P rs r → P x → Each P (storeRecord rs r x) r
+  store-has P h p k l =
       let t = store-kept rs r x w b c in
       ⊎-elim
-      (λ q. rw (q, t .last) p)
+      (λ (q : k ≡ t .kept). rw (ap (recordAt (storeRecord rs r x) r) q ∙ t .last) p)
       (λ q. rw (t .before k q) (h (k + t .gone) (omega (arith, t .was))))
       (eq-or-lt-of-le (let g : k ≤ t .kept = omega (arith, t .count) in g))
 
-  pub store-has-other : (s : ℕ) → s ≢ r → recordCount rs s ≤ 4 → ((k : ℕ) → k < recordCount rs s → P (recordAt rs s k)) → (k : ℕ) → k < recordCount (storeRecord rs r x) s → P (recordAt (storeRecord rs r x) s k)
-  store-has-other s ne c h k l =
+  pub store-each : (f : Record → Bool) → each f rs r ≡ true → f x ≡ true → each f (storeRecord rs r x) r ≡ true
+  store-each f h p = each-of f (storeRecord rs r x) r (store-has (λ y. f y ≡ true) (each-says f rs r h) p)
+
+module _ (rs : Records) (r : ℕ) (x : Record) (s : ℕ) (ne : s ≢ r) (c : recordCount rs s ≤ 4) where
+  pub store-has-other : (P : Record → Type 0) → Each P rs s → Each P (storeRecord rs r x) s
+  store-has-other P h k l =
       let g : k < recordCount rs s = rw (count-other rs r x s ne) at l in
       rw (record-other rs r x s k ne (omega arith)) (h k g)
 
-module _ (rs : Records) (r : ℕ) (x : Record) (f : Record → Bool) where
-  pub store-each : Shaped rs → r < 8 → recordCount rs r ≤ 4 → allBelow (λ k. f (recordAt rs r k)) (recordCount rs r) ≡ true → f x ≡ true → allBelow (λ k. f (recordAt (storeRecord rs r x) r k)) (recordCount (storeRecord rs r x) r) ≡ true
-  store-each w b c h p =
-      all-of (λ k. f (recordAt (storeRecord rs r x) r k)) (recordCount (storeRecord rs r x) r)
-      (store-has rs r x (λ y. f y ≡ true) w b c (λ k l. all-each (λ j. f (recordAt rs r j)) (recordCount rs r) k l h) p)
-
-  pub store-each-other : (s : ℕ) → s ≢ r → recordCount rs s ≤ 4 → allBelow (λ k. f (recordAt rs s k)) (recordCount rs s) ≡ true → allBelow (λ k. f (recordAt (storeRecord rs r x) s k)) (recordCount (storeRecord rs r x) s) ≡ true
-  store-each-other s ne c h =
-      all-of (λ k. f (recordAt (storeRecord rs r x) s k)) (recordCount (storeRecord rs r x) s)
-      (store-has-other rs r x (λ y. f y ≡ true) s ne c (λ k l. all-each (λ j. f (recordAt rs s j)) (recordCount rs s) k l h))
+  pub store-each-other : (f : Record → Bool) → each f rs s ≡ true → each f (storeRecord rs r x) s ≡ true
+  store-each-other f h = each-of f (storeRecord rs r x) s (store-has-other (λ y. f y ≡ true) (each-says f rs s h))

@@ -1,34 +1,8 @@
 -- The sessions at the edges, 1 to 11, as one theorem: the definitions compute to what the table wants, row by row. Assumes nothing.
 use mathlib.Core.Path.{refl}
-use Rattle.below.specs.Below.{allBelow, noneBelow, countBelow, largestBelow, runFrom, runBelow, firstBelow, times, foldBelow, fillBelow, eachBelow, joinBelow, listBelow}
-use Rattle.below.specs.Bits.{bit}
-use Rattle.views.specs.Cuts.{countOf, cutOk}
-use Rattle.views.specs.Sets.{has, within, size, only, setOf, joined, less}
-use Rattle.views.specs.Views.{startOf, allZero, startsFit, viewOk, startsSame, same}
-use Rattle.marks.specs.Beyond.{noneFrom}
-use Rattle.marks.specs.Bits.{bit as bit-bits, withBit}
-use Rattle.marks.specs.Held.{isWord, heldAt, marked, runOf, noGap}
-use Rattle.marks.specs.Marks.{rowOf, heldIn, runIn, noGapIn, markedIn}
-use Rattle.messages.specs.Layouts.{body, bytesOf, lengthOf, blankView, fieldsFit, wellFormed}
-use Rattle.records.specs.Records.{recordAt, recordCount, findRecord, holdsRecord, theRecord, newest, storeRecord, recordOk, recordsWellFormed, recordsRise, recordsAtMost}
-use Rattle.slots.specs.Slots.{place, tagAt, marksAt, used, isFor, slotOf, hasSlot, heldWord, run, markWord, freed, freeSlot, hasFree, taken, withSlot, allUsed, slotsDiffer, noGaps}
-use Rattle.endpoint.specs.Application.{unfit, ownRun, sendChecks, afterSend, areaAfterSend, blockOkChecks, afterBlockOk}
-use Rattle.endpoint.specs.Change.{askChecks, afterAsk, declaredSet, declareChecks, afterDeclare, announceChecks, announces, ownNext, passChecks, passes, ownCut, syncOutChecks, syncs}
-use Rattle.endpoint.specs.Due.{due, forwardMark, dueAbove, lowestDue, owes}
-use Rattle.endpoint.specs.Forward.{dueIndex, raised, forwardOutChecks, forwards}
-use Rattle.endpoint.specs.Fresh.{freshSlots, fresh}
-use Rattle.endpoint.specs.Give.{nextGiven, limit, nothingNext, beyondCut, giveChecks, givesNext, giveOne, giveMany, batchNumber, batch, batchArea}
-use Rattle.endpoint.specs.Install.{allMembers, fewer, more, slotsAfter, afterInstall, installChecks}
-use Rattle.endpoint.specs.Membership.{startChecks, afterStart, membershipChecks, afterMembership}
-use Rattle.endpoint.specs.Numbers.{verdict, settle, settleArea}
-use Rattle.endpoint.specs.Ready.{ready, namedHeld, named, inBoth, inT, T, namedCut, agreed, unnamed}
-use Rattle.endpoint.specs.Receive.{unreceivable, otherWord, storeWord, storeArea, needsSlot, viewChecks, afterView, nextWord, live, wordChecks, afterWord, areaAfterWord, syncChecks, afterSync, forwardChecks, afterForward, areaAfterForward, receiveChecks, afterReceive, areaAfterReceive}
-use Rattle.endpoint.specs.Sound.{heardFrom, allOthers, flagsOk, viewsOk, ownMember, countsOk, recordsOk, slotsOk, heardOk, givenOk, sound}
-use Rattle.endpoint.specs.Spent.{spentBy, spent}
-use Rattle.endpoint.specs.Steps.{checks, effect, stored, step, areaAfter}
-use Rattle.sessions.specs.Play.{desk, next, after, answers, numbers}
-use Rattle.sessions.specs.Sessions.{Agrees, none, one, plays, answer, enter, words, leave, synced, seven, eight, nine, ten, eleven, owed, table}
+use Rattle.sessions.specs.Sessions.{Agrees, none, one, table}
+use Rattle.sessions.specs.Opened.{opened}
 
 pub sessions : Agrees table
-unfolding allBelow noneBelow countBelow largestBelow runFrom runBelow firstBelow times foldBelow fillBelow eachBelow joinBelow listBelow bit countOf cutOk has within size only setOf joined less startOf allZero startsFit viewOk startsSame same noneFrom bit-bits withBit isWord heldAt marked runOf noGap rowOf heldIn runIn noGapIn markedIn body bytesOf lengthOf blankView fieldsFit wellFormed recordAt recordCount findRecord holdsRecord theRecord newest storeRecord recordOk recordsWellFormed recordsRise recordsAtMost place tagAt marksAt used isFor slotOf hasSlot heldWord run markWord freed freeSlot hasFree taken withSlot allUsed slotsDiffer noGaps unfit ownRun sendChecks afterSend areaAfterSend blockOkChecks afterBlockOk askChecks afterAsk declaredSet declareChecks afterDeclare announceChecks announces ownNext passChecks passes ownCut syncOutChecks syncs due forwardMark dueAbove lowestDue owes dueIndex raised forwardOutChecks forwards freshSlots fresh nextGiven limit nothingNext beyondCut giveChecks givesNext giveOne giveMany batchNumber batch batchArea allMembers fewer more slotsAfter afterInstall installChecks startChecks afterStart membershipChecks afterMembership verdict settle settleArea ready namedHeld named inBoth inT T namedCut agreed unnamed unreceivable otherWord storeWord storeArea needsSlot viewChecks afterView nextWord live wordChecks afterWord areaAfterWord syncChecks afterSync forwardChecks afterForward areaAfterForward receiveChecks afterReceive areaAfterReceive heardFrom allOthers flagsOk viewsOk ownMember countsOk recordsOk slotsOk heardOk givenOk sound spentBy spent checks effect stored step areaAfter desk next after answers numbers plays answer enter words leave synced seven eight nine ten eleven owed table
+unfolding opened
 sessions = one refl (one refl (one refl (one refl (one refl (one refl (one refl (one refl (one refl (one refl (one refl (one refl (one refl none))))))))))))

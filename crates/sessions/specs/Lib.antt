@@ -1,2 +1,4 @@
 pub mod Play
 pub mod Sessions
+pub mod Slips
+pub mod Opened

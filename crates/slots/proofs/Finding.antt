@@ -1,27 +1,26 @@
--- The laws of finding a slot. In order: which slots are for a view; a view's slot; two views that are the same; runs and held words;
--- what is said of each slot in use: of its view, of its view and another's, of its marks, and of each flag.
--- Assumes nothing. What the steps do to slots is in Marking, Freeing and Taking.
+-- What the laws of slots assume (Shaped, Respects, flags), then the laws of finding a slot. In order: which slots are for a view; a view's slot;
+-- two views that are the same; runs and held words; what is said of each slot in use: of its view, of two of them, of its marks.
+-- Assumes nothing else. What the steps do to slots is in Marking, Freeing, Taking and With.
 use Prim.Native.Nat.{ℕ, _≤_, _<_}
 use native.Mathlib.Nat.{eq-or-lt-of-le}
 use native.Mathlib.Omega.{arith}
 use mathlib.Core.Bool.{Bool, true, false, _&&_, not, cond}
 use mathlib.Core.Path.{_≡_, refl, sym, ap, _∙_}
-use mathlib.Core.Logic.{⊎-elim}
-use lib.Dec.{ltb, leb}
+use mathlib.Core.Logic.{_⊎_, inl, inr, ⊎-elim}
+use lib.Dec.{eqb, leb}
 use lib.ListN.{length, List·getD-eq-default}
-use borrow.Author.Tests.{ltb-true, ltb-false, lt-ltb, le-ltb}
-use Rattle.below.specs.Below.{allBelow, firstBelow}
-use Rattle.below.proofs.Tests.{clash, and-both, and-left, and-right, both, not-is}
+use borrow.Author.Tests.{eqb-true, eqb-false, ltb-true, ltb-false, lt-ltb}
+use Rattle.below.specs.Below.{allBelow}
+use Rattle.below.proofs.Tests.{clash, and-both, and-left, and-right, not-is}
 use Rattle.below.proofs.All.{all-each, all-of}
 use Rattle.views.specs.declared.View.{View}
 use Rattle.views.specs.Views.{same}
-use Rattle.marks.specs.declared.Marks.{Marks}
-use Rattle.marks.specs.Marks.{rowOf, heldIn, runIn, noGapIn, noMarks}
+use Rattle.marks.specs.Marks.{noGapIn, noMarks}
 use Rattle.marks.proofs.Slot.{run-in-low, cleared-held, cleared-run}
 use Rattle.slots.specs.declared.Slots.{Slots}
 use Rattle.slots.specs.Slots.{tagAt, marksAt, used, isFor, slotOf, hasSlot, heldWord, run, allUsed, slotsDiffer, noGaps}
-use Rattle.slots.proofs.Same.{same-sym, same-trans, same-alike}
-use Rattle.slots.proofs.First.{first-low, first-here, first-before, first-find, first-is, first-same}
+use Rattle.views.proofs.Sameness.{same-sym, same-trans, same-alike}
+use Rattle.below.proofs.First.{first-low, first-here, first-before, first-find, first-same}
 
 -- four slots of eight rows: what owning the arrays tells
 pub record Shaped (ss : Slots) : Type 0 where
@@ -36,6 +35,14 @@ Respects f = (v w : View) → same v w ≡ true → f v ≡ f w
 -- each flag is 0 or 1, as flagsOk says it
 abbrev pub flags : Slots → Bool
 flags ss = allBelow (λ s. leb (tagAt ss s .used) 1) 4
+
+-- slot s is slot k, or not
+pub at-or-not : (s k : ℕ) → (s ≡ k) ⊎ (s ≡ k → ⊥)
+at-or-not s k = go (eqb s k) refl
+  where
+    go : (b : Bool) → eqb s k ≡ b → (s ≡ k) ⊎ (s ≡ k → ⊥)
+    go true e = inl (eqb-true s k e)
+    go false e = inr (eqb-false s k e)
 
 -- ---- which slots are for a view
 
@@ -63,9 +70,14 @@ module _ (ss : Slots) (v : View) where
   unfolding hasSlot slotOf
   slot-of h = let l : slotOf ss v < 4 = ltb-true (slotOf ss v) 4 h in (l, first-here (isFor ss v) 4 l)
 
+  -- a slot for v is no lower than v's
+  pub slot-first : (s : ℕ) → isFor ss v s ≡ true → slotOf ss v ≤ s
+  unfolding slotOf
+  slot-first s e = first-find (isFor ss v) 4 s e
+
   pub slot-find : (s : ℕ) → s < 4 → isFor ss v s ≡ true → hasSlot ss v ≡ true
-  unfolding hasSlot slotOf
-  slot-find s l e = lt-ltb (slotOf ss v) 4 (omega (arith, first-find (isFor ss v) 4 s e))
+  unfolding hasSlot
+  slot-find s l e = lt-ltb (slotOf ss v) 4 (omega (arith, slot-first s e))
 
   pub no-slot : hasSlot ss v ≡ false → slotOf ss v ≡ 4
   unfolding hasSlot
@@ -144,23 +156,23 @@ module _ (f : View → Bool) (ss : Slots) where
       sym (g (tagAt ss s .view) v (for-same ss v s (p .1))) ∙ used-each e s (p .0) (for-used ss v s (p .1))
 
 module _ (ss : Slots) where
+  -- both in use, for one view
+  abbrev alike : ℕ → ℕ → Bool
+  alike s t = used ss s && (used ss t && same (tagAt ss s .view) (tagAt ss t .view))
+
   -- slots s and t, t the lower, are for different views
   pub differ-each : slotsDiffer ss ≡ true → (s t : ℕ) → s < 4 → t < s → used ss s ≡ true → used ss t ≡ true
-    → same (tagAt ss s .view) (tagAt ss t .view) ≡ false
+      → same (tagAt ss s .view) (tagAt ss t .view) ≡ false
   unfolding slotsDiffer
-  differ-each e s t l m u w = rw (u, w) at (not-is (both-used s t) (all-each (λ t. not (both-used s t)) s t m (all-each (λ s. allBelow (λ t. not (both-used s t)) s) 4 s l e)))
-    where
-      both-used : ℕ → ℕ → Bool
-      both-used s t = used ss s && (used ss t && same (tagAt ss s .view) (tagAt ss t .view))
+  differ-each e s t l m u w =
+      rw (u, w) at (not-is (alike s t) (all-each (λ t. not (alike s t)) s t m (all-each (λ s. allBelow (λ t. not (alike s t)) s) 4 s l e)))
 
   pub differ-of : ((s t : ℕ) → s < 4 → t < s → used ss s ≡ true → used ss t ≡ true → same (tagAt ss s .view) (tagAt ss t .view) ≡ false)
-    → slotsDiffer ss ≡ true
+      → slotsDiffer ss ≡ true
   unfolding slotsDiffer
-  differ-of h = all-of (λ s. allBelow (λ t. not (both-used s t)) s) 4 (λ s l. all-of (λ t. not (both-used s t)) s (λ t m. go (used ss s) (used ss t) (h s t l m)))
+  differ-of h =
+      all-of (λ s. allBelow (λ t. not (alike s t)) s) 4 (λ s l. all-of (λ t. not (alike s t)) s (λ t m. go (used ss s) (used ss t) (h s t l m)))
     where
-      both-used : ℕ → ℕ → Bool
-      both-used s t = used ss s && (used ss t && same (tagAt ss s .view) (tagAt ss t .view))
-
       go : (a b : Bool) {c : Bool} → (a ≡ true → b ≡ true → c ≡ false) → not (a && (b && c)) ≡ true
       go true true f = ap not (f refl refl)
       go true false f = refl
@@ -175,11 +187,7 @@ module _ (ss : Slots) where
       (λ i. i)
       (λ i. clash (same-trans (tagAt ss s .view) v (tagAt ss t .view) (for-same ss v s q) (same-sym (tagAt ss t .view) v (for-same ss v t (p .1))))
       (differ-each e s t l i (for-used ss v s q) (for-used ss v t (p .1))))
-      (eq-or-lt-of-le (slot-first s q))
-    where
-      slot-first : (s : ℕ) → isFor ss v s ≡ true → slotOf ss v ≤ s
-      unfolding slotOf
-      slot-first s q = first-find (isFor ss v) 4 s q
+      (eq-or-lt-of-le (slot-first ss v s q))
 
 module _ (ss : Slots) (p : ℕ) where
   pub gaps-each : noGaps ss p ≡ true → (s : ℕ) → s < 4 → used ss s ≡ true → noGapIn (marksAt ss s) p ≡ true

@@ -1,3 +1,6 @@
-pub mod Same
-pub mod First
 pub mod Finding
+pub mod Marking
+pub mod Freeing
+pub mod Taking
+pub mod With
+pub mod Places

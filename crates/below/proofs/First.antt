@@ -3,11 +3,11 @@
 use Prim.Native.Nat.{ℕ, _≤_, _<_}
 use native.Mathlib.Omega.{arith}
 use mathlib.Core.Bool.{Bool, true, false, not}
-use mathlib.Core.Path.{_≡_, refl, sym, ap, _∙_}
+use mathlib.Core.Path.{_≡_, ap, _∙_}
 use mathlib.Core.Logic.{⊎-elim}
 use Rattle.below.specs.Below.{firstBelow}
 use Rattle.below.proofs.Tests.{clash, not-is, is-not, side}
 use Rattle.below.proofs.Run.{run-is, run-only}
 
 module _ (g : ℕ → Bool) (n : ℕ) where
   pub first-low : firstBelow g n ≤ n

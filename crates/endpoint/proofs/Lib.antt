@@ -1,0 +1,4 @@
+pub mod Verdicts
+pub mod Start
+pub mod Spending
+pub mod Parts
