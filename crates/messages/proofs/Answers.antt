@@ -18,7 +18,7 @@ use Rattle.messages.specs.Codec.{messageAt, reads, refused, readOf, writ
 use Rattle.messages.proofs.Numbers.{le-length, le-byte, view-length, cut-length}
 use Rattle.messages.proofs.Stores.{sets-join, sets-front}
 
--- ---- the kind of a well formed message, and its bytes' number
+-- ---- the kind and the parts of a well formed message, and its bytes' number
 
 pub kind-fits : (m : Message) → wellFormed m ≡ true → (1 ≤ m .kind) × (m .kind ≤ 6)
 unfolding wellFormed fieldsFit
@@ -27,6 +27,34 @@ kind-fits m e =
     let p = and-left (fieldsFit k (m .number) (m .sender) (m .index) (m .word) (m .set)) (cutOk (cutSet k (m .view .set)) (m .cut) && viewFits k (m .view)) e in
     let q = and-left (leb 1 k && leb k 6) (numberFits k (m .number) && (placeFits k (m .sender) (m .index) && (wordFits k (m .word) && setFits k (m .set)))) p in
     (leb-true 1 k (and-left (leb 1 k) (leb k 6) q), leb-true k 6 (and-right (leb 1 k) (leb k 6) q))
+
+-- each part's own test
+pub record PartsFit (m : Message) : Type 0 where
+  pub number-fits : numberFits (m .kind) (m .number) ≡ true
+  pub place-fits : placeFits (m .kind) (m .sender) (m .index) ≡ true
+  pub word-fits : wordFits (m .kind) (m .word) ≡ true
+  pub set-fits : setFits (m .kind) (m .set) ≡ true
+  pub cut-fits : cutOk (cutSet (m .kind) (m .view .set)) (m .cut) ≡ true
+  pub view-fits : viewFits (m .kind) (m .view) ≡ true
+
+pub parts-fit : (m : Message) → wellFormed m ≡ true → PartsFit m
+unfolding wellFormed fieldsFit
+parts-fit m e =
+    let k = m .kind in
+    let scalars = numberFits k (m .number) && (placeFits k (m .sender) (m .index) && (wordFits k (m .word) && setFits k (m .set))) in
+    let rows = cutOk (cutSet k (m .view .set)) (m .cut) && viewFits k (m .view) in
+    let p : scalars ≡ true = and-right (leb 1 k && leb k 6) scalars (and-left ((leb 1 k && leb k 6) && scalars) rows e) in
+    let q : rows ≡ true = and-right ((leb 1 k && leb k 6) && scalars) rows e in
+    let r = and-right (numberFits k (m .number)) (placeFits k (m .sender) (m .index) && (wordFits k (m .word) && setFits k (m .set))) p in
+    let s = and-right (placeFits k (m .sender) (m .index)) (wordFits k (m .word) && setFits k (m .set)) r in
+    record {
+      number-fits = and-left (numberFits k (m .number)) (placeFits k (m .sender) (m .index) && (wordFits k (m .word) && setFits k (m .set))) p;
+      place-fits = and-left (placeFits k (m .sender) (m .index)) (wordFits k (m .word) && setFits k (m .set)) r;
+      word-fits = and-left (wordFits k (m .word)) (setFits k (m .set)) s;
+      set-fits = and-right (wordFits k (m .word)) (setFits k (m .set)) s;
+      cut-fits = and-left (cutOk (cutSet k (m .view .set)) (m .cut)) (viewFits k (m .view)) q;
+      view-fits = and-right (cutOk (cutSet k (m .view .set)) (m .cut)) (viewFits k (m .view)) q;
+    }
 
 part-length : (b : Bool) (xs : List ℕ) (w : ℕ) → length xs ≡ w → length (part b xs) ≡ cond b w 0
 part-length true xs w e = e

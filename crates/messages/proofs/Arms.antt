@@ -1,20 +1,25 @@
--- The six kinds one by one, as the reader's and the writer's arms have them: the length, the message read, the body stored.
+-- The six kinds one by one, as the reader's and the writer's arms have them: the length, the message read, its tests, the body stored.
 -- Assumes nothing. That reading and writing are inverse is in Trip, by one argument for all kinds.
 use Prim.Native.Nat.{ℕ, zero, suc, _+_, _≤_, _<_}
 use native.Mathlib.Omega.{arith}
-use mathlib.Core.Bool.{Bool, true, false, cond}
+use mathlib.Core.Bool.{Bool, true, false, cond, _&&_, and-true}
 use mathlib.Core.List.{List, [], _∷_, _++_, append-nil}
 use mathlib.Core.Logic.{_⊎_, ⊎-elim}
 use mathlib.Core.Path.{_≡_, refl, sym, ap, _∙_}
 use lib.ListN.{length}
 use lib.Seq.{sets}
 use borrow.Author.Tests.{ne-eqb}
+use Rattle.below.specs.Below.{allBelow}
+use Rattle.below.specs.Bits.{bit}
+use Rattle.views.specs.Sets.{has}
+use Rattle.views.specs.Views.{allZero, viewOk}
+use Rattle.views.specs.Cuts.{cutOk}
 use Rattle.views.specs.declared.View.{View}
 use Rattle.views.specs.declared.Cut.{Cut}
 use Rattle.messages.specs.declared.Message.{Message}
 use Rattle.messages.specs.Bytes.{le, numberAt, viewBody, viewAt, cutBytes, cutAt}
 use Rattle.messages.specs.Messages.{blank, ofView, ofWord, ofSync, ofForward, ofStartChange}
-use Rattle.messages.specs.Layouts.{body, lengthOf}
+use Rattle.messages.specs.Layouts.{placeFits, blankView, body, lengthOf, fieldsFit, wellFormed}
 use Rattle.messages.specs.Codec.{messageAt}
 use Rattle.messages.proofs.Numbers.{le-length, view-length, cut-length}
 use Rattle.messages.proofs.Stores.{sets-join}
@@ -73,9 +78,35 @@ module _ (bs : List ℕ) (k : ℕ) (r : Message) where
   unfolding messageAt
   at-membership v e p q = rw (e, ← p) q
 
+  pub at-views : (v : View) → (k ≡ 1) ⊎ (k ≡ 6) → v ≡ viewAt bs 1 → r ≡ ofView k v → r ≡ messageAt bs k
+  at-views v e p q = ⊎-elim (λ t. at-view v t p (rw t at q)) (λ t. at-membership v t p (rw t at q)) e
+
   pub at-none : NoKind k → r ≡ blank k → r ≡ messageAt bs k
   unfolding messageAt
   at-none h q = rw (ne-eqb k 1 (h .0), ne-eqb k 2 (h .1 .0), ne-eqb k 3 (h .1 .1 .0), ne-eqb k 4 (h .1 .1 .1 .0), ne-eqb k 5 (h .1 .1 .1 .1 .0), ne-eqb k 6 (h .1 .1 .1 .1 .1)) q
+
+-- ---- well formed: only the parts that the kind has are tested
+
+module _ (m : Message) where
+  pub well-view : (k : ℕ) (v : View) → (k ≡ 1) ⊎ (k ≡ 6) → m ≡ ofView k v → wellFormed m ≡ viewOk v
+  unfolding wellFormed fieldsFit cutOk allBelow has bit
+  well-view k v e p = rw p (⊎-elim (λ q. rw q refl) (λ q. rw q refl) e)
+
+  pub well-word : (w : ℕ) → m ≡ ofWord w → wellFormed m ≡ true
+  unfolding wellFormed fieldsFit cutOk allBelow has bit blankView allZero
+  well-word w p = rw p refl
+
+  pub well-sync : (n : ℕ) (v : View) (c : Cut) → m ≡ ofSync n v c → wellFormed m ≡ (cutOk (v .set) c && viewOk v)
+  unfolding wellFormed fieldsFit
+  well-sync n v c p = rw p refl
+
+  pub well-forward : (s i w : ℕ) (v : View) → m ≡ ofForward s i v w → wellFormed m ≡ (placeFits 4 s i && viewOk v)
+  unfolding wellFormed fieldsFit cutOk allBelow has bit
+  well-forward s i w v p = rw (p, and-true) refl
+
+  pub well-start-change : (n s : ℕ) → m ≡ ofStartChange n s → wellFormed m ≡ true
+  unfolding wellFormed fieldsFit cutOk allBelow has bit blankView allZero
+  well-start-change n s p = rw p refl
 
 -- ---- the body stored
 

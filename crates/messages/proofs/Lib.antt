@@ -3,3 +3,5 @@ pub mod Stores
 pub mod Arms
 pub mod Answers
 pub mod Trip
+pub mod Rows
+pub mod Fits

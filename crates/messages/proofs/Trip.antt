@@ -27,7 +27,7 @@ use Rattle.messages.specs.Messages.{noView, noCut}
 use Rattle.messages.specs.Layouts.{hasNumber, hasPlace, hasView, hasCut, hasWord, hasSet, part, numberFits, placeFits, blankView, viewFits, cutSet, wordFits, setFits, body, bytesOf, lengthOf, fieldsFit, wellFormed}
 use Rattle.messages.specs.Codec.{afterNumber, afterPlace, afterView, afterCut, afterWord, messageAt, reads, refused, readOf}
 use Rattle.messages.proofs.Numbers.{AreBytes, Stands, stands-join, stands-left, stands-right, stands-whole, stands-self, le-length, le-reads, le-stands, ViewRange, CutRange, view-length, cut-length, view-reads, view-stands, cut-reads, cut-stands}
-use Rattle.messages.proofs.Answers.{kind-fits, bytes-length}
+use Rattle.messages.proofs.Answers.{kind-fits, PartsFit, parts-fit, bytes-length}
 
 -- ---- a part that may be there
 
@@ -76,34 +76,6 @@ pub record MessageRange (m : Message) : Type 0 where
   pub set-low : m .set < 256 ^ 1
   pub sender-low : m .sender < 256 ^ 1
   pub index-low : m .index < 256 ^ 1
-
--- each part's own test
-record PartsFit (m : Message) : Type 0 where
-  number-fits : numberFits (m .kind) (m .number) ≡ true
-  place-fits : placeFits (m .kind) (m .sender) (m .index) ≡ true
-  word-fits : wordFits (m .kind) (m .word) ≡ true
-  set-fits : setFits (m .kind) (m .set) ≡ true
-  cut-fits : cutOk (cutSet (m .kind) (m .view .set)) (m .cut) ≡ true
-  view-fits : viewFits (m .kind) (m .view) ≡ true
-
-parts-fit : (m : Message) → wellFormed m ≡ true → PartsFit m
-unfolding wellFormed fieldsFit
-parts-fit m e =
-    let k = m .kind in
-    let scalars = numberFits k (m .number) && (placeFits k (m .sender) (m .index) && (wordFits k (m .word) && setFits k (m .set))) in
-    let rows = cutOk (cutSet k (m .view .set)) (m .cut) && viewFits k (m .view) in
-    let p : scalars ≡ true = and-right (leb 1 k && leb k 6) scalars (and-left ((leb 1 k && leb k 6) && scalars) rows e) in
-    let q : rows ≡ true = and-right ((leb 1 k && leb k 6) && scalars) rows e in
-    let r = and-right (numberFits k (m .number)) (placeFits k (m .sender) (m .index) && (wordFits k (m .word) && setFits k (m .set))) p in
-    let s = and-right (placeFits k (m .sender) (m .index)) (wordFits k (m .word) && setFits k (m .set)) r in
-    record {
-      number-fits = and-left (numberFits k (m .number)) (placeFits k (m .sender) (m .index) && (wordFits k (m .word) && setFits k (m .set))) p;
-      place-fits = and-left (placeFits k (m .sender) (m .index)) (wordFits k (m .word) && setFits k (m .set)) r;
-      word-fits = and-left (wordFits k (m .word)) (setFits k (m .set)) s;
-      set-fits = and-right (wordFits k (m .word)) (setFits k (m .set)) s;
-      cut-fits = and-left (cutOk (cutSet k (m .view .set)) (m .cut)) (viewFits k (m .view)) q;
-      view-fits = and-right (cutOk (cutSet k (m .view .set)) (m .cut)) (viewFits k (m .view)) q;
-    }
 
 -- a test that is not made leaves the other
 lacks : (b : Bool) (x : ℕ) → cond b true (eqb x 0) ≡ true → b ≡ false → x ≡ 0

@@ -1,4 +1,4 @@
-// The six kinds of message in bytes: what a message is, the reader and the writer. Each public function takes any values, and its promise fixes its answer and every lent byte.
+// The six kinds of message in bytes: what a message is, the reader and the writer, by value and by a field area. Each public function takes any values, and its promise fixes its answer and every lent byte.
 ghost use mathlib.Core.Path.{_≡_};
 use views::{Cut, View};
 
@@ -7,7 +7,14 @@ mod put;
 mod parts;
 mod made;
 mod codec;
+mod give;
+mod take;
+mod fit;
+mod reader;
+mod writer;
 pub use codec::{length_of, read, write};
+pub use reader::read_fields;
+pub use writer::write_fields;
 
 // What a kind does not have is 0.
 #[repr(C)]

@@ -4,13 +4,13 @@ ghost use Rattle.messages.specs.Layouts.{hasNumber, hasPlace, hasView, h
 use crate::Message;
 use views::View;
 
-fn has_view(kind: u8) -> bool
+pub(crate) fn has_view(kind: u8) -> bool
     ensures { λ r. ⌜ r ≡ hasView kind ⌝ }
 {
     (kind == 1) | (kind == 3) | (kind == 4) | (kind == 6)
 }
 
-fn has_number(kind: u8) -> bool
+pub(crate) fn has_number(kind: u8) -> bool
     ensures { λ r. ⌜ r ≡ hasNumber kind ⌝ }
 {
     (kind == 3) | (kind == 5)
@@ -28,7 +28,7 @@ fn number_fits(kind: u8, number: u32) -> bool
     if has_number(kind) { true } else { number == 0 }
 }
 
-fn place_fits(kind: u8, sender: u8, index: u8) -> bool
+pub(crate) fn place_fits(kind: u8, sender: u64, index: u64) -> bool
     ensures { λ r. ⌜ r ≡ placeFits kind sender index ⌝ }
 {
     if kind == 4 {
@@ -38,7 +38,7 @@ fn place_fits(kind: u8, sender: u8, index: u8) -> bool
     }
 }
 
-fn word_fits(kind: u8, word: u64) -> bool
+pub(crate) fn word_fits(kind: u8, word: u64) -> bool
     ensures { λ r. ⌜ r ≡ wordFits kind word ⌝ }
 {
     if has_word(kind) { true } else { word == 0 }
@@ -78,7 +78,7 @@ fn fields_fit(kind: u8, number: u32, sender: u8, index: u8, word: u64, set: u8) 
     ensures { λ r. ⌜ r ≡ fieldsFit kind number sender index word set ⌝ }
 {
     let a = number_fits(kind, number);
-    let b = place_fits(kind, sender, index);
+    let b = place_fits(kind, sender as u64, index as u64);
     let c = word_fits(kind, word);
     let d = set_fits(kind, set);
     ((1 <= kind) & (kind <= 6)) & (a & (b & (c & d)))

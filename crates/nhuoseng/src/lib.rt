@@ -2,10 +2,7 @@
 ghost use mathlib.Core.Path.{_≡_};
 ghost use Prim.Native.Nat.{_≤_};
 ghost use Rattle.messages.specs.Layouts.{lengthOf};
-ghost use Rattle.nhuoseng.specs.Fields.{readNumber, fieldsRead, numberWritten, areaWritten};
-
-mod give;
-mod take;
+ghost use Rattle.messages.specs.Fields.{readNumber, fieldsRead, numberWritten, areaWritten};
 
 // How many bytes a message of this kind has: 0 where the number is no kind.
 #[no_mangle]
@@ -20,15 +17,7 @@ pub extern "C" fn nh_length(kind: u8) -> u8
 pub extern "C" fn nh_read(bytes: &[u8], fields: &mut [u64]) -> u8
     ensures { λ r. ⌜ (r ≡ readNumber (now (bytes .entry)) (now (fields .entry))) × (now (fields .exit) ≡ fieldsRead (now (bytes .entry)) (now (fields .entry))) ⌝ }
 {
-    if fields.len() != 24 {
-        return 1;
-    }
-    let reading = messages::read(bytes);
-    if reading.number != 0 {
-        return 1;
-    }
-    give::give(reading.message, fields);
-    0
+    messages::read_fields(bytes, fields)
 }
 
 // 0, and the message that the fields are at the area's start; or 1, and the area as it was.
@@ -36,11 +25,5 @@ pub extern "C" fn nh_read(bytes: &[u8], fields: &mut [u64]) -> u8
 pub extern "C" fn nh_write(fields: &[u64], area: &mut [u8]) -> u8
     ensures { λ r. ⌜ (r ≡ numberWritten (now (fields .entry)) (now (area .entry))) × (now (area .exit) ≡ areaWritten (now (fields .entry)) (now (area .entry))) ⌝ }
 {
-    if fields.len() != 24 {
-        return 1;
-    }
-    if !take::narrow(fields) {
-        return 1;
-    }
-    messages::write(take::message(fields), area)
+    messages::write_fields(fields, area)
 }

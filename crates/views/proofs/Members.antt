@@ -1,17 +1,18 @@
--- The laws of sets: no member above 7; `within` as the two bytes joined; `size` as the byte's count of ones. Assumes nothing.
-use Prim.Native.Nat.{ℕ, suc, _+_, _≤_, _<_, _^_}
+-- The laws of sets: no member above 7; `within` as the two bytes joined; `size` as the byte's count of ones; a count against a member's bit. Assumes nothing.
+use Prim.Native.Nat.{ℕ, zero, suc, _+_, _*_, _≤_, _<_, _^_}
 use native.Mathlib.Omega.{arith}
 use mathlib.Core.Bool.{Bool, true, false, _||_, cond}
 use mathlib.Core.Path.{_≡_, refl, sym, ap, _∙_}
-use lib.Dec.{eqb}
+use lib.Dec.{eqb, leb}
 use lib.Bits.{bitOr, or-lt}
 use lib.Count.{ones}
-use borrow.Author.Tests.{eq-eqb, eqb-true}
+use borrow.Author.Tests.{eq-eqb, ne-eqb, eqb-true, lt-leb}
 use Rattle.below.specs.Bits.{bit}
 use Rattle.below.proofs.Bits.{bit-above, bit-or, bits-same, count-ones}
 use Rattle.below.proofs.Tests.{both}
 use Rattle.below.proofs.All.{all-each, all-of}
 use Rattle.views.specs.Sets.{has, within, size}
+use Rattle.views.specs.Cuts.{countFits}
 
 pub has-above : (s n : ℕ) → s < 256 → 8 ≤ n → has s n ≡ false
 unfolding has
@@ -47,3 +48,10 @@ within-or a b p q =
 pub size-ones : (s : ℕ) → s < 256 → ones s ≡ size s
 unfolding size has
 size-ones s h = count-ones 8 s h
+
+-- the most that a count may be, from a member's bit b
+pub most-fits : (count b : ℕ) → b < 2 → leb count (b * 128) ≡ countFits (eqb b 1) count
+most-fits zero zero l = refl
+most-fits (suc n) zero l = lt-leb (suc n) 0 (omega arith) ∙ sym (ne-eqb (suc n) 0 (λ e. omega arith))
+most-fits n (suc zero) l = refl
+most-fits n (suc (suc b)) l = absurd (omega arith)

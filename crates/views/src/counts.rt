@@ -1,14 +1,16 @@
 // Tests on cuts.
 ghost use mathlib.Core.Path.{_≡_};
+ghost use Prim.Native.Nat.{_<_, _≤_};
 ghost use Rattle.views.specs.Sets.{has};
 ghost use Rattle.views.specs.Cuts.{countFits, cutOk};
-use crate::sets;
 use crate::Cut;
 
+// One comparison, with the most that the count may be: 128 of a member, 0 of another.
 fn count_fits(set: u8, n: u8, count: u8) -> bool
+    requires { ⌜ n < 8 ⌝ }
     ensures { λ r. ⌜ r ≡ countFits (has set n) count ⌝ }
 {
-    if sets::contains(set, n) { count <= 128 } else { count == 0 }
+    count <= (set >> n) % 2 * 128
 }
 
 impl Cut {
