@@ -4,7 +4,7 @@ use native.Mathlib.Omega.{arith}
 use mathlib.Core.Bool.{Bool, true, false, cond, _&&_, and-false}
 use mathlib.Core.List.{List, [], _∷_, _++_}
 use mathlib.Core.Path.{_≡_, refl, sym, ap, _∙_}
-use lib.Dec.{eqb, leb}
+use lib.Dec.{leb}
 use lib.ListN.{length, getD, drop, length-append}
 use lib.Seq.{sets}
 use borrow.Author.Tests.{eq-eqb, ne-eqb, le-leb, lt-leb, leb-true}
@@ -16,7 +16,7 @@ use Rattle.messages.specs.Bytes.{le, viewBody, cutBytes}
 use Rattle.messages.specs.Layouts.{hasNumber, hasPlace, hasView, hasCut, hasWord, hasSet, part, numberFits, placeFits, wordFits, setFits, viewFits, cutSet, body, bytesOf, lengthOf, fieldsFit, wellFormed}
 use Rattle.messages.specs.Codec.{messageAt, reads, refused, readOf, writes, writeNumber, written}
 use Rattle.messages.proofs.Numbers.{le-length, le-byte, view-length, cut-length}
-use Rattle.messages.proofs.Stores.{sets-join, sets-front}
+use Rattle.messages.proofs.Stores.{sets-front}
 
 -- ---- the kind and the parts of a well formed message, and its bytes' number
 

@@ -1,9 +1,9 @@
 -- The six kinds one by one, as the reader's and the writer's arms have them: the length, the message read, its tests, the body stored.
 -- Assumes nothing. That reading and writing are inverse is in Trip, by one argument for all kinds.
-use Prim.Native.Nat.{ℕ, zero, suc, _+_, _≤_, _<_}
+use Prim.Native.Nat.{ℕ, zero, suc, _+_, _≤_}
 use native.Mathlib.Omega.{arith}
-use mathlib.Core.Bool.{Bool, true, false, cond, _&&_, and-true}
-use mathlib.Core.List.{List, [], _∷_, _++_, append-nil}
+use mathlib.Core.Bool.{true, _&&_, and-true}
+use mathlib.Core.List.{List, [], _++_, append-nil}
 use mathlib.Core.Logic.{_⊎_, ⊎-elim}
 use mathlib.Core.Path.{_≡_, refl, sym, ap, _∙_}
 use lib.ListN.{length}
@@ -21,7 +21,7 @@ use Rattle.messages.specs.Bytes.{le, numberAt, viewBody, viewAt, cutByte
 use Rattle.messages.specs.Messages.{blank, ofView, ofWord, ofSync, ofForward, ofStartChange}
 use Rattle.messages.specs.Layouts.{placeFits, blankView, body, lengthOf, fieldsFit, wellFormed}
 use Rattle.messages.specs.Codec.{messageAt}
-use Rattle.messages.proofs.Numbers.{le-length, view-length, cut-length}
+use Rattle.messages.proofs.Numbers.{le-length, view-length}
 use Rattle.messages.proofs.Stores.{sets-join}
 
 -- k is none of the kinds

@@ -1,5 +1,5 @@
 -- The writer's tests by part say that the fields are narrow and their message well formed: part by part, then together; and what the writer answers by them. Assumes nothing.
-use Prim.Native.Nat.{ℕ, suc, _+_, _%_, _^_, _≤_, _<_}
+use Prim.Native.Nat.{ℕ, _+_, _%_, _^_, _≤_, _<_}
 use native.Mathlib.Nat.{mod-eq-of-lt}
 use native.Mathlib.Omega.{arith}
 use mathlib.Core.Bool.{Bool, true, false, not, cond, _&&_}
@@ -17,9 +17,8 @@ use Rattle.below.proofs.Tests.{and-both, and-left, and-right, both, told-not, t
 use Rattle.views.specs.Sets.{has}
 use Rattle.views.specs.Views.{allZero, viewOk}
 use Rattle.views.specs.Cuts.{cutOk}
-use Rattle.messages.specs.declared.Message.{Message}
 use Rattle.messages.specs.Bytes.{le}
-use Rattle.messages.specs.Layouts.{hasNumber, hasPlace, hasView, hasCut, hasSet, placeFits, blankView, viewFits, cutSet, wordFits, body, lengthOf, fieldsFit, wellFormed}
+use Rattle.messages.specs.Layouts.{hasNumber, hasPlace, hasView, hasCut, hasSet, placeFits, blankView, wordFits, body, lengthOf, fieldsFit, wellFormed}
 use Rattle.messages.specs.Fields.{narrowStarts, narrowCounts, narrowBytes, narrow, messageOf, numberWritten, areaWritten}
 use Rattle.messages.specs.Fits.{belowOrZero, numbersFit, zeroRow, cutFieldsFit, narrowView, viewFieldsFit, fieldsAre}
 use Rattle.messages.proofs.Answers.{PartsFit, parts-fit, write-whole}

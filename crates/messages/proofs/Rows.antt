@@ -1,15 +1,15 @@
 -- The field area: a row copied into it place by place; the whole of it as one row; what narrow fields say; what the reader and the writer by a field area answer at each test. Assumes nothing.
-use Prim.Native.Nat.{ℕ, zero, suc, _+_, _^_, _≤_, _<_}
+use Prim.Native.Nat.{ℕ, _+_, _^_, _≤_, _<_}
 use native.Mathlib.Nat.{one-mul}
 use native.Mathlib.Omega.{arith}
-use mathlib.Core.Bool.{Bool, true, false, cond, _&&_, and-false}
+use mathlib.Core.Bool.{Bool, true, false, _&&_, and-false}
 use mathlib.Core.List.{List, [], _∷_, _++_, append-nil}
 use mathlib.Core.Path.{_≡_, refl, sym, ap, _∙_}
-use lib.Dec.{eqb, ltb}
+use lib.Dec.{ltb}
 use lib.ListN.{length, getD, set, take, drop, length-append, length-take, drop-of-length-le}
 use lib.Seq.{sets, sets-eq, drop-at}
 use borrow.Author.Tests.{eq-eqb, ne-eqb, ltb-true}
-use Rattle.below.specs.Below.{allBelow, listBelow}
+use Rattle.below.specs.Below.{listBelow}
 use Rattle.below.proofs.Lists.{list-length}
 use Rattle.below.proofs.Tests.{and-left, and-right}
 use Rattle.below.proofs.All.{all-each}

@@ -2,13 +2,13 @@
 --   reads-back : what a well formed message writes reads as that message.
 --   reads-only : bytes that read are the bytes that their message writes, so nothing else is accepted.
 -- In order: a part that may be there; what a well formed message lacks is blank; the two theorems. Assumes nothing.
-use Prim.Native.Nat.{ℕ, zero, suc, _+_, _^_, _≤_, _<_}
+use Prim.Native.Nat.{ℕ, _+_, _^_, _<_}
 use native.Mathlib.Nat.{add-zero}
 use native.Mathlib.Omega.{arith}
 use mathlib.Core.Bool.{Bool, true, false, cond, _&&_}
-use mathlib.Core.List.{List, [], _∷_, _++_}
+use mathlib.Core.List.{List, _++_}
 use mathlib.Core.Path.{_≡_, refl, sym, ap, subst, _∙_}
-use lib.Dec.{eqb, leb}
+use lib.Dec.{eqb}
 use lib.ListN.{length, getD, replicate, getD-replicate, length-append}
 use lib.Seq.{ext-getD}
 use borrow.Author.Tests.{eq-eqb, eqb-true}
@@ -24,7 +24,7 @@ use Rattle.messages.specs.declared.Message.{Message}
 use Rattle.messages.specs.declared.Reading.{Reading}
 use Rattle.messages.specs.Bytes.{le, numberAt, viewBody, viewAt, cutBytes, cutAt}
 use Rattle.messages.specs.Messages.{noView, noCut}
-use Rattle.messages.specs.Layouts.{hasNumber, hasPlace, hasView, hasCut, hasWord, hasSet, part, numberFits, placeFits, blankView, viewFits, cutSet, wordFits, setFits, body, bytesOf, lengthOf, fieldsFit, wellFormed}
+use Rattle.messages.specs.Layouts.{hasNumber, hasPlace, hasView, hasCut, hasWord, hasSet, part, placeFits, blankView, body, bytesOf, lengthOf, wellFormed}
 use Rattle.messages.specs.Codec.{afterNumber, afterPlace, afterView, afterCut, afterWord, messageAt, reads, refused, readOf}
 use Rattle.messages.proofs.Numbers.{AreBytes, Stands, stands-join, stands-left, stands-right, stands-whole, stands-self, le-length, le-reads, le-stands, ViewRange, CutRange, view-length, cut-length, view-reads, view-stands, cut-reads, cut-stands}
 use Rattle.messages.proofs.Answers.{kind-fits, PartsFit, parts-fit, bytes-length}

@@ -8,7 +8,6 @@ use lib.ListN.{getD}
 use Rattle.below.specs.Below.{allBelow}
 use Rattle.views.specs.Views.{viewOk}
 use Rattle.views.specs.Cuts.{cutOk}
-use Rattle.messages.specs.declared.Message.{Message}
 use Rattle.messages.specs.Layouts.{hasNumber, hasView, hasCut, hasSet, placeFits, wordFits}
 use Rattle.messages.specs.Fields.{messageOf, narrowStarts, narrowCounts}
 

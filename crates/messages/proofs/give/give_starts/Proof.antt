@@ -1,7 +1,7 @@
 -- `give::give_starts` meets its contract: the numbers passed are stored. Assumes nothing.
 use borrow.Author.Needs.{needs}
-use Prim.Native.Nat.{_≤_, _-_, _+_}
-use mathlib.Core.Path.{_≡_, refl, _∙_}
+use Prim.Native.Nat.{_≤_, _-_}
+use mathlib.Core.Path.{_≡_, refl}
 use lib.ListN.{length, getD, length-set}
 use Rattle.below.specs.Below.{listBelow}
 use lib.Seq.{sets}

@@ -1,11 +1,10 @@
 -- `reader::read_view` meets its contract: only the view is tested. Assumes nothing.
 use borrow.Author.Needs.{needs}
 use native.Mathlib.Omega.{arith}
-use mathlib.Core.Path.{refl, sym, _∙_}
+use mathlib.Core.Path.{refl, _∙_}
 use lib.ListN.{length}
-use mathlib.Core.Bool.{_&&_, and-false}
 use mathlib.Core.Logic.{⊎-elim}
-use Rattle.below.proofs.Tests.{told-not, told-so, and-both}
+use Rattle.below.proofs.Tests.{told-not, told-so}
 use Rattle.messages.proofs.Arms.{room-of, at-views, well-view}
 use Rattle.messages.proofs.Rows.{unread-malformed, read-row}
 use Rattle.messages.specs.Layouts.{lengthOf}

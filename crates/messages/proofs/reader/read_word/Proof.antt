@@ -1,9 +1,7 @@
 -- `reader::read_word` meets its contract: a word has no test. Assumes nothing.
 use borrow.Author.Needs.{needs}
 use native.Mathlib.Omega.{arith}
-use mathlib.Core.Path.{refl, sym, _∙_}
-use lib.ListN.{length}
-use mathlib.Core.Bool.{_&&_, and-false}
+use mathlib.Core.Path.{refl}
 use Rattle.messages.proofs.Arms.{at-word, well-word}
 use Rattle.messages.proofs.Rows.{read-row}
 use Rattle.messages.specs.Layouts.{lengthOf}

@@ -5,7 +5,6 @@ use mathlib.Core.Path.{_≡_, refl}
 use lib.ListN.{length, replicate, getD}
 use Rattle.below.specs.Below.{fillBelow}
 use Rattle.below.proofs.Lists.{fills, filled-none}
-use Prim.Native.Nat.{_^_}
 use lib.Dec.{ltb}
 use borrow.Author.Tests.{ltb-true}
 use Rattle.below.proofs.All.{all-each}

@@ -1,5 +1,4 @@
 -- `writer::write_view` meets its contract: the kind and the view are stored. Assumes nothing.
-use native.Mathlib.Omega.{arith}
 use mathlib.Core.Path.{refl, _∙_}
 use lib.ListN.{getD}
 use mathlib.Core.Logic.{⊎-elim, inl, inr}
