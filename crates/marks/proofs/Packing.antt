@@ -10,13 +10,15 @@ use mathlib.Core.Logic.{⊎-elim}
 use lib.Dec.{eqb}
 use borrow.Author.Tests.{eq-eqb, ne-eqb, le-leb, lt-leb, eqb-true}
 use Rattle.below.specs.Below.{runBelow}
+use Rattle.below.specs.Bits.{bit}
+use Rattle.below.proofs.Bits.{bit-none}
 use Rattle.below.proofs.Tests.{both, side}
 use Rattle.marks.specs.declared.Held.{Held}
-use Rattle.marks.specs.Bits.{bit, withBit}
+use Rattle.marks.specs.Bits.{withBit}
 use Rattle.marks.specs.Beyond.{noneFrom}
 use Rattle.marks.specs.Held.{isWord, heldAt, marked, runOf, noGap, noneHeld}
 use Rattle.marks.proofs.Beyond.{none-of, none-past}
-use Rattle.marks.proofs.Bits.{bit-none, bit-with, none-bits}
+use Rattle.marks.proofs.Bits.{bit-with, none-bits}
 use Rattle.marks.proofs.Halves.{run-low-half, run-both-halves, none-halves}
 
 -- ---- word i by its half

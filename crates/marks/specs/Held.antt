@@ -4,8 +4,9 @@ use Prim.Native.Nat.{ℕ, _+_, _-_}
 use mathlib.Core.Bool.{Bool, cond, _&&_}
 use lib.Dec.{leb}
 use Rattle.below.specs.Below.{runBelow}
+use Rattle.below.specs.Bits.{bit}
 use Rattle.marks.specs.Beyond.{noneFrom}
-use Rattle.marks.specs.Bits.{bit, withBit}
+use Rattle.marks.specs.Bits.{withBit}
 use Rattle.marks.specs.declared.Held.{Held}
 
 -- words are numbered 1 to 128

@@ -2,7 +2,8 @@
 ghost use mathlib.Core.Path.{_≡_};
 ghost use Prim.Native.Nat.{_<_, _≤_};
 ghost use Rattle.below.specs.Below.{runBelow};
-ghost use Rattle.marks.specs.Bits.{bit, withBit};
+ghost use Rattle.below.specs.Bits.{bit};
+ghost use Rattle.marks.specs.Bits.{withBit};
 ghost use Rattle.marks.specs.Beyond.{noneFrom};
 ghost use Rattle.marks.specs.Held.{heldAt, marked, runOf, noGap, noneHeld};
 ghost use Rattle.marks.specs.Marks.{rowOf, heldIn, runIn, noGapIn, markedIn, noMarks};

@@ -1,7 +1,7 @@
 -- `bit_at` meets its contract: the shift and the remainder are `bit` itself. Assumes nothing.
 use mathlib.Core.Path.{refl}
 use borrow.Author.Needs.{needs}
-use Rattle.marks.specs.Bits.{bit}
+use Rattle.below.specs.Bits.{bit}
 use Rattle.marks.proofs.bit_at.Statement.{statement}
 use Rattle.marks.proofs.bit_at.Tie as tie
 
