@@ -47,9 +47,12 @@ bits-same zero x y a b h = omega arith
 bits-same (suc w) x y a b h =
     let p : x < 2 ^ w * 2 = rw pow-suc at a in
     let q : y < 2 ^ w * 2 = rw pow-suc at b in
-    omega
-    (arith, first-same x y (h 0 (omega arith)), bits-same w (x / 2) (y / 2) (omega arith) (omega arith)
-    (λ k l. sym (bit-next x k) ∙ h (suc k) (omega arith) ∙ bit-next y k))
+    omega (
+      arith,
+      first-same x y (h 0 (omega arith)),
+      bits-same w (x / 2) (y / 2) (omega arith) (omega arith)
+          (λ k l. sym (bit-next x k) ∙ h (suc k) (omega arith) ∙ bit-next y k),
+    )
 
 -- ---- a bit alone, and two numbers' bits joined
 

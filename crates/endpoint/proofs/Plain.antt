@@ -76,27 +76,28 @@ module _ (e : EndPoint) (w : Shaped e) (p : Parts e) {rs : Records} {rows : List
       → Store.Shaped rs → length rows ≡ 8 → ((q : ℕ) → q < 8 → length (getD rows q noMarks .marks) ≡ 8) → length counts ≡ 8
       → Parts (anew rs rows counts b s t n e) × Shaped (anew rs rows counts b s t n e)
   unfolding viewsOk ownMember slotsOk heardOk allOthers heardFrom spent
-  anew-kept f c r g x l m y =
-      (record {
-        low = p .low;
-        flags = f;
-        views = p .views;
-        member = p .member;
-        counts = c;
-        records = r;
-        slots = p .slots;
-        heard = p .heard;
-        given = g;
-      },
-      record {
-        slots-shaped = w .slots-shaped;
-        records-shaped = x;
-        heard-length = w .heard-length;
-        received-length = w .received-length;
-        given-length = y;
-        forwarded-length = l;
-        rows-length = m;
-      })
+  anew-kept f c r g x l m y = (
+    record {
+      low = p .low;
+      flags = f;
+      views = p .views;
+      member = p .member;
+      counts = c;
+      records = r;
+      slots = p .slots;
+      heard = p .heard;
+      given = g;
+    },
+    record {
+      slots-shaped = w .slots-shaped;
+      records-shaped = x;
+      heard-length = w .heard-length;
+      received-length = w .received-length;
+      given-length = y;
+      forwarded-length = l;
+      rows-length = m;
+    },
+  )
 
 -- ---- block-ok, ask to block, declare, announce: the block state, the declared set, the flag of the announced view
 
@@ -247,14 +248,14 @@ given-kept e area q w p l h =
     let low : allBelow (λ r. leb (getD (e .given) r 0) 128) 8 ≡ true = search clauses in
     let ran : allBelow (λ r. leb (getD (e .given) r 0) (run (e .slots) (e .current) r)) 8 ≡ true = search clauses in
     let i : k + 1 ≤ run (e .slots) (e .current) q =
-      held-next (e .slots) (e .current) q k (leb-true k (run (e .slots) (e .current) q) (all-each (λ r. leb (getD (e .given) r 0) (run (e .slots) (e .current) r)) 8 q l ran)) h
+    held-next (e .slots) (e .current) q k (leb-true k (run (e .slots) (e .current) q) (all-each (λ r. leb (getD (e .given) r 0) (run (e .slots) (e .current) r)) 8 q l ran)) h
     in
     let b : q < length (e .given) = omega (arith, w .given-length) in
     let low' : allBelow (λ r. leb (getD (set (e .given) q (k + 1)) r 0) 128) 8 ≡ true =
-      set-all (e .given) q (k + 1) 0 b (λ r y. leb y 128) 8 (le-leb (k + 1) 128 (omega (arith, run-low (e .slots) (e .current) q))) low
+    set-all (e .given) q (k + 1) 0 b (λ r y. leb y 128) 8 (le-leb (k + 1) 128 (omega (arith, run-low (e .slots) (e .current) q))) low
     in
     let ran' : allBelow (λ r. leb (getD (set (e .given) q (k + 1)) r 0) (run (e .slots) (e .current) r)) 8 ≡ true =
-      set-all (e .given) q (k + 1) 0 b (λ r y. leb y (run (e .slots) (e .current) r)) 8 (le-leb (k + 1) (run (e .slots) (e .current) q) i) ran
+    set-all (e .given) q (k + 1) 0 b (λ r y. leb y (run (e .slots) (e .current) r)) 8 (le-leb (k + 1) (run (e .slots) (e .current) q) i) ran
     in
     anew-kept e w p (p .flags) (search clauses) (p .records) (search clauses)
     (w .records-shaped) (w .forwarded-length) (w .rows-length) (length-set (e .given) q (k + 1) ∙ w .given-length)

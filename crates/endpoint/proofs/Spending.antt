@@ -37,13 +37,14 @@ module _ (p : ℕ) (current : View) (latest : ℕ) (pending : Bool) (v : View) w
       let a = not (same v current) in
       let x = leb (v .id) (current .id) in
       let y = ltb (startOf v p) latest in
-      let z = eqb (startOf v p) latest && not pending in
-      (not-is (same v current) (and-left a (x || (y || z)) e),
-      ⊎-elim (λ t. inl (leb-true (v .id) (current .id) t))
-      (λ t. inr (⊎-elim (λ u. inl (ltb-true (startOf v p) latest u))
-      (λ u. inr (eqb-true (startOf v p) latest (and-left (eqb (startOf v p) latest) (not pending) u), not-is pending (and-right (eqb (startOf v p) latest) (not pending) u)))
-      (or-cases y z t)))
-      (or-cases x (y || z) (and-right a (x || (y || z)) e)))
+      let z = eqb (startOf v p) latest && not pending in (
+        not-is (same v current) (and-left a (x || (y || z)) e),
+        ⊎-elim (λ t. inl (leb-true (v .id) (current .id) t))
+            (λ t. inr (⊎-elim (λ u. inl (ltb-true (startOf v p) latest u))
+            (λ u. inr (eqb-true (startOf v p) latest (and-left (eqb (startOf v p) latest) (not pending) u), not-is pending (and-right (eqb (startOf v p) latest) (not pending) u)))
+            (or-cases y z t)))
+            (or-cases x (y || z) (and-right a (x || (y || z)) e)),
+      )
 
   pub spent-of : same v current ≡ false → Reason p current latest pending v → spentBy p current latest pending v ≡ true
   unfolding spentBy

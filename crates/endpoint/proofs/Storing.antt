@@ -96,7 +96,7 @@ module _ (e : EndPoint) (shape : Shaped e) (p : Parts e) where
         heard-well = others-each e (λ q. viewOk (heardFrom e q)) (and-left v2 v3 vr);
         heard-placed = others-each e (λ q. placed e (e .slots) (heardFrom e q)) (p .heard);
         received-low = λ q l n. leb-true (getD (e .received) q 0) 128 (others-each e (λ k. leb (getD (e .received) k 0) 128)
-        (and-left c1 (c2 && c3) (and-right c0 (c1 && (c2 && c3)) (p .counts))) q l n);
+            (and-left c1 (c2 && c3) (and-right c0 (c1 && (c2 && c3)) (p .counts))) q l n);
       }
 
   -- and with such ones it stays sound
@@ -163,26 +163,28 @@ module _ (e : EndPoint) (shape : Shaped e) (p : Parts e) where
     kept-same = (p .member, p .records)
 
     pub stores-kept : Parts (storing e ss vs cs) × Shaped (storing e ss vs cs)
-    stores-kept =
-        (record {
-          low = p .low;
-          flags = kept-flags;
-          views = kept-views;
-          member = kept-same .0;
-          counts = kept-counts;
-          records = kept-same .1;
-          slots = kept-slots;
-          heard = kept-heard;
-          given = kept-given;
-        }, record {
-          slots-shaped = t .slots-shaped;
-          records-shaped = shape .records-shaped;
-          heard-length = t .heard-length;
-          received-length = t .received-length;
-          given-length = shape .given-length;
-          forwarded-length = shape .forwarded-length;
-          rows-length = shape .rows-length;
-        })
+    stores-kept = (
+      record {
+        low = p .low;
+        flags = kept-flags;
+        views = kept-views;
+        member = kept-same .0;
+        counts = kept-counts;
+        records = kept-same .1;
+        slots = kept-slots;
+        heard = kept-heard;
+        given = kept-given;
+      },
+      record {
+        slots-shaped = t .slots-shaped;
+        records-shaped = shape .records-shaped;
+        heard-length = t .heard-length;
+        received-length = t .received-length;
+        given-length = shape .given-length;
+        forwarded-length = shape .forwarded-length;
+        rows-length = shape .rows-length;
+      },
+    )
 
 -- ---- what each change of them keeps
 
@@ -292,9 +294,9 @@ module _ (e : EndPoint) (ss : Slots) (vs : List View) (cs : List ℕ) (t : Store
         heard-well = t .heard-well;
         heard-placed = t .heard-placed;
         received-low = λ k m d. ⊎-elim
-        (λ (x : k ≡ q). rw (x, getD-set-same cs q n 0 (omega (arith, t .received-length))) b)
-        (λ x. rw (getD-set-other cs q k n 0 x) (t .received-low k m d))
-        (at-or-not k q);
+            (λ (x : k ≡ q). rw (x, getD-set-same cs q n 0 (omega (arith, t .received-length))) b)
+            (λ x. rw (getD-set-other cs q k n 0 x) (t .received-low k m d))
+            (at-or-not k q);
       }
 
   -- a view announced by q
@@ -313,9 +315,9 @@ module _ (e : EndPoint) (ss : Slots) (vs : List View) (cs : List ℕ) (t : Store
         slot-runs = t .slot-runs;
         heard-well = λ k m d. ⊎-elim (λ x. rw (new k x) w) (λ x. rw (old k x) (t .heard-well k m d)) (at-or-not k q);
         heard-placed = λ k m d. ⊎-elim
-        (λ x. ap (placed e ss) (new k x) ∙ h)
-        (λ x. ap (placed e ss) (old k x) ∙ t .heard-placed k m d)
-        (at-or-not k q);
+            (λ x. ap (placed e ss) (new k x) ∙ h)
+            (λ x. ap (placed e ss) (old k x) ∙ t .heard-placed k m d)
+            (at-or-not k q);
         received-low = t .received-low;
       }
     where
@@ -390,9 +392,10 @@ view-kept e q v shape p l d w f =
     go true x =
         let t = stores-now e shape p in
         let n = needs-parts e v x in
-        let free : hasFree (e .slots) ≡ true = is-not (hasFree (e .slots)) (rw x at f) in
-        (taken-stores e (e .slots) (e .heard) (e .received) t v w (n .0) (n .1) free,
-        placed-slot e (taken v (e .slots)) v (taken-has v (e .slots) (t .slots-shaped) free))
+        let free : hasFree (e .slots) ≡ true = is-not (hasFree (e .slots)) (rw x at f) in (
+          taken-stores e (e .slots) (e .heard) (e .received) t v w (n .0) (n .1) free,
+          placed-slot e (taken v (e .slots)) v (taken-has v (e .slots) (t .slots-shaped) free),
+        )
 
     fit : Fit new
     fit = go (needsSlot e v) refl

@@ -82,12 +82,14 @@ checks-rise (send w) e area = (lit< tt, (lit< tt, (lit< tt, tt)))
 checks-rise blockOk e area = (lit< tt, (lit< tt, tt))
 checks-rise (startChange n s) e area = (lit< tt, (lit< tt, (lit< tt, tt)))
 checks-rise (membershipView v) e area = (lit< tt, (lit< tt, (lit< tt, (lit< tt, tt))))
-checks-rise (receive q m) e area =
-    (lit< tt, by-kind-rises (m .kind) 1 (viewChecks e q (m .view)) (wordChecks e area q (m .word)) (syncChecks e q m) (forwardChecks e area q m)
-    (lit< tt, (lit< tt, (lit< tt, tt)))
-    (lit< tt, (lit< tt, (lit< tt, tt)))
-    (lit< tt, (lit< tt, tt))
-    (lit< tt, (lit< tt, tt)))
+checks-rise (receive q m) e area = (
+  lit< tt,
+  by-kind-rises (m .kind) 1 (viewChecks e q (m .view)) (wordChecks e area q (m .word)) (syncChecks e q m) (forwardChecks e area q m)
+      (lit< tt, (lit< tt, (lit< tt, tt)))
+      (lit< tt, (lit< tt, (lit< tt, tt)))
+      (lit< tt, (lit< tt, tt))
+      (lit< tt, (lit< tt, tt)),
+)
 checks-rise askToBlock e area = (lit< tt, (lit< tt, tt))
 checks-rise declare e area = (lit< tt, tt)
 checks-rise announce e area = (lit< tt, (lit< tt, (lit< tt, tt)))

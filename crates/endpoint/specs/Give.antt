@@ -62,8 +62,8 @@ giveMany e area q (suc n) =
     let a = giveOne e area q in
     let more = giveMany (a .ep) area q n in
     elim (eqb (a .number) 0) [
-      true ↦ record { ep = more .ep; words = a .word ∷ more .words }
-    | false ↦ record { ep = e; words = [] }
+      | true ↦ record { ep = more .ep; words = a .word ∷ more .words }
+      | false ↦ record { ep = e; words = [] }
     ]
 
 -- "Refused with 1 or 2 as a give-out is"; "10 or 11 merely ends it"

@@ -81,9 +81,10 @@ module _ (fs : List ℕ) where
       let p = and-left (eqb (getD fs 6 0) 0) (eqb (getD fs 7 0) 0 && zeroRow fs 8) e in
       let q = and-right (eqb (getD fs 6 0) 0) (eqb (getD fs 7 0) 0 && zeroRow fs 8) e in
       let r = and-left (eqb (getD fs 7 0) 0) (zeroRow fs 8) q in
-      let s = and-right (eqb (getD fs 7 0) 0) (zeroRow fs 8) q in
-      ( and-both (zero-low (getD fs 6 0) (2 ^ 32) (omega arith) p) (and-both (zero-low (getD fs 7 0) 256 (omega arith) r) (row-low 8 (2 ^ 32) (omega arith) s))
-      , and-both p (and-both r (sym no-starts ∙ s)))
+      let s = and-right (eqb (getD fs 7 0) 0) (zeroRow fs 8) q in (
+        and-both (zero-low (getD fs 6 0) (2 ^ 32) (omega arith) p) (and-both (zero-low (getD fs 7 0) 256 (omega arith) r) (row-low 8 (2 ^ 32) (omega arith) s)),
+        and-both p (and-both r (sym no-starts ∙ s)),
+      )
 
   of-view : (b : Bool) → narrowView fs ≡ true → cond b (viewOk (messageOf fs .view)) (blankView (messageOf fs .view)) ≡ true
       → cond b (narrowView fs && viewOk (messageOf fs .view)) (eqb (getD fs 6 0) 0 && (eqb (getD fs 7 0) 0 && zeroRow fs 8)) ≡ true

@@ -102,7 +102,6 @@ lacks-cut b s c l e f =
     let t : c .counts ≡ replicate 8 0 = zeros (c .counts) l (λ n h. eqb-true (getD (c .counts) n 0) 0 (rw (bit-none n) at (all-each (λ k. countFits (has 0 k) (getD (c .counts) k 0)) 8 n h p))) in
     λ j. record { counts = t j }
 
-
 -- ---- each part stands where the parts before it end
 
 record PartsStand (m : Message) (bs : List ℕ) : Type 0 where
@@ -178,19 +177,19 @@ unfolding messageAt
 message-back m bs r f s =
     let k = m .kind in
     let view-is : cond (hasView k) (viewAt bs (afterPlace k)) noView ≡ m .view =
-        chosen (hasView k) (viewAt bs (afterPlace k)) noView (m .view) (λ t. view-reads bs (afterPlace k) (m .view) (r .view-range) (s .view-stands t)) (lacks-view (hasView k) (m .view) (r .view-range .eight) (f .view-fits)) in
+    chosen (hasView k) (viewAt bs (afterPlace k)) noView (m .view) (λ t. view-reads bs (afterPlace k) (m .view) (r .view-range) (s .view-stands t)) (lacks-view (hasView k) (m .view) (r .view-range .eight) (f .view-fits)) in
     let word-is : cond (hasWord k) (numberAt 8 bs (afterCut k)) 0 ≡ m .word =
-        chosen (hasWord k) (numberAt 8 bs (afterCut k)) 0 (m .word) (λ t. le-reads 8 (m .word) (afterCut k) bs (r .word-low) (s .word-stands t)) (lacks (hasWord k) (m .word) (f .word-fits)) in
+    chosen (hasWord k) (numberAt 8 bs (afterCut k)) 0 (m .word) (λ t. le-reads 8 (m .word) (afterCut k) bs (r .word-low) (s .word-stands t)) (lacks (hasWord k) (m .word) (f .word-fits)) in
     let number-is : cond (hasNumber k) (numberAt 4 bs 1) 0 ≡ m .number =
-        chosen (hasNumber k) (numberAt 4 bs 1) 0 (m .number) (λ t. le-reads 4 (m .number) 1 bs (r .number-low) (s .number-stands t)) (lacks (hasNumber k) (m .number) (f .number-fits)) in
+    chosen (hasNumber k) (numberAt 4 bs 1) 0 (m .number) (λ t. le-reads 4 (m .number) 1 bs (r .number-low) (s .number-stands t)) (lacks (hasNumber k) (m .number) (f .number-fits)) in
     let cut-is : cond (hasCut k) (cutAt bs (afterView k)) noCut ≡ m .cut =
-        chosen (hasCut k) (cutAt bs (afterView k)) noCut (m .cut) (λ t. cut-reads bs (afterView k) (m .cut) (r .cut-range) (s .cut-stands t)) (lacks-cut (hasCut k) (m .view .set) (m .cut) (r .cut-range .eight) (f .cut-fits)) in
+    chosen (hasCut k) (cutAt bs (afterView k)) noCut (m .cut) (λ t. cut-reads bs (afterView k) (m .cut) (r .cut-range) (s .cut-stands t)) (lacks-cut (hasCut k) (m .view .set) (m .cut) (r .cut-range .eight) (f .cut-fits)) in
     let set-is : cond (hasSet k) (numberAt 1 bs (afterWord k)) 0 ≡ m .set =
-        chosen (hasSet k) (numberAt 1 bs (afterWord k)) 0 (m .set) (λ t. le-reads 1 (m .set) (afterWord k) bs (r .set-low) (s .set-stands t)) (lacks (hasSet k) (m .set) (f .set-fits)) in
+    chosen (hasSet k) (numberAt 1 bs (afterWord k)) 0 (m .set) (λ t. le-reads 1 (m .set) (afterWord k) bs (r .set-low) (s .set-stands t)) (lacks (hasSet k) (m .set) (f .set-fits)) in
     let sender-is : cond (hasPlace k) (numberAt 1 bs (afterNumber k)) 0 ≡ m .sender =
-        chosen (hasPlace k) (numberAt 1 bs (afterNumber k)) 0 (m .sender) (λ t. le-reads 1 (m .sender) (afterNumber k) bs (r .sender-low) (stands-left (le 1 (m .sender)) (le 1 (m .index)) bs (afterNumber k) (s .place-stands t))) (λ t. lacks-place k (m .sender) (m .index) (f .place-fits) t .0) in
+    chosen (hasPlace k) (numberAt 1 bs (afterNumber k)) 0 (m .sender) (λ t. le-reads 1 (m .sender) (afterNumber k) bs (r .sender-low) (stands-left (le 1 (m .sender)) (le 1 (m .index)) bs (afterNumber k) (s .place-stands t))) (λ t. lacks-place k (m .sender) (m .index) (f .place-fits) t .0) in
     let index-is : cond (hasPlace k) (numberAt 1 bs (afterNumber k + 1)) 0 ≡ m .index =
-        chosen (hasPlace k) (numberAt 1 bs (afterNumber k + 1)) 0 (m .index) (λ t. le-reads 1 (m .index) (afterNumber k + 1) bs (r .index-low) (second-byte (m .sender) (m .index) bs (afterNumber k) (s .place-stands t))) (λ t. lacks-place k (m .sender) (m .index) (f .place-fits) t .1) in
+    chosen (hasPlace k) (numberAt 1 bs (afterNumber k + 1)) 0 (m .index) (λ t. le-reads 1 (m .index) (afterNumber k + 1) bs (r .index-low) (second-byte (m .sender) (m .index) bs (afterNumber k) (s .place-stands t))) (λ t. lacks-place k (m .sender) (m .index) (f .place-fits) t .1) in
     λ j. record { view = view-is j; word = word-is j; number = number-is j; cut = cut-is j; kind = k; set = set-is j; sender = sender-is j; index = index-is j }
 
 pub reads-back : (m : Message) → MessageRange m → wellFormed m ≡ true → readOf (bytesOf m) ≡ record { message = m; number = 0 }

@@ -5,10 +5,18 @@ ghost use lib.ListN.{length};
 ghost use lib.Seq.{sets};
 ghost use Rattle.messages.specs.Layouts.{body, lengthOf};
 ghost use Rattle.messages.specs.Codec.{messageAt, refused, readOf, writeNumber, written};
-use crate::get::{byte_at, cut_at, number_at, view_at, word_at};
-use crate::put::{put_byte, put_cut, put_number, put_view, put_word};
 use crate::Message;
 use crate::Reading;
+use crate::get::byte_at;
+use crate::get::cut_at;
+use crate::get::number_at;
+use crate::get::view_at;
+use crate::get::word_at;
+use crate::put::put_byte;
+use crate::put::put_cut;
+use crate::put::put_number;
+use crate::put::put_view;
+use crate::put::put_word;
 
 // How many bytes a message of this kind has: 0 where the number is no kind.
 pub fn length_of(kind: u8) -> u8

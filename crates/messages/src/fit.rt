@@ -4,8 +4,12 @@ ghost use Prim.Native.Nat.{_+_, _≤_};
 ghost use lib.ListN.{length};
 ghost use Rattle.messages.specs.Fields.{narrowStarts, narrowCounts};
 ghost use Rattle.messages.specs.Fits.{belowOrZero, numbersFit, zeroRow, cutFieldsFit, viewFieldsFit};
-use crate::parts::{has_number, has_view, place_fits, word_fits};
-use crate::take::{cut_of, view_of};
+use crate::parts::has_number;
+use crate::parts::has_view;
+use crate::parts::place_fits;
+use crate::parts::word_fits;
+use crate::take::cut_of;
+use crate::take::view_of;
 
 fn below_or_zero(has: bool, top: u64, x: u64) -> bool
     ensures { λ r. ⌜ r ≡ belowOrZero has top x ⌝ }

@@ -1,18 +1,22 @@
 // The six kinds of message in bytes: what a message is, the reader and the writer, by value and by a field area. Each public function takes any values, and its promise fixes its answer and every lent byte.
 ghost use mathlib.Core.Path.{_≡_};
-use views::{Cut, View};
+use views::Cut;
+use views::View;
 
-mod get;
-mod put;
-mod parts;
-mod made;
 mod codec;
-mod give;
-mod take;
 mod fit;
+mod get;
+mod give;
+mod made;
+mod parts;
+mod put;
 mod reader;
+mod take;
 mod writer;
-pub use codec::{length_of, read, write};
+
+pub use codec::length_of;
+pub use codec::read;
+pub use codec::write;
 pub use reader::read_fields;
 pub use writer::write_fields;
 

@@ -2,7 +2,8 @@
 ghost use mathlib.Core.Path.{_≡_};
 ghost use Rattle.messages.specs.Messages.{noView, noCut, blank as blankOf, ofView as viewOf, ofWord as wordOf, ofSync as syncOf, ofForward as forwardOf, ofStartChange as startChangeOf};
 use crate::Message;
-use views::{Cut, View};
+use views::Cut;
+use views::View;
 
 fn no_view() -> View
     ensures { λ r. ⌜ r ≡ noView ⌝ }

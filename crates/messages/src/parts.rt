@@ -71,7 +71,11 @@ fn is_blank(v: View) -> bool
 fn view_fits(kind: u8, v: View) -> bool
     ensures { λ r. ⌜ r ≡ viewFits kind v ⌝ }
 {
-    if has_view(kind) { v.well_formed() } else { is_blank(v) }
+    if has_view(kind) {
+        v.well_formed()
+    } else {
+        is_blank(v)
+    }
 }
 
 fn fields_fit(kind: u8, number: u32, sender: u8, index: u8, word: u64, set: u8) -> bool
@@ -90,7 +94,14 @@ impl Message {
         ensures { λ r. ⌜ r ≡ wellFormed self ⌝ }
     {
         let kind = self.kind;
-        if !fields_fit(kind, self.number, self.sender, self.index, self.word, self.set) {
+        if !fields_fit(
+            kind,
+            self.number,
+            self.sender,
+            self.index,
+            self.word,
+            self.set,
+        ) {
             return false;
         }
         if !self.cut.well_formed(cut_set(kind, self.view.set)) {

@@ -4,7 +4,8 @@ ghost use Prim.Native.Nat.{_+_, _≤_};
 ghost use lib.ListN.{length};
 ghost use lib.Seq.{sets};
 ghost use Rattle.messages.specs.Bytes.{le, row, viewBody, cutBytes};
-use views::{Cut, View};
+use views::Cut;
+use views::View;
 
 pub(crate) fn put_byte(area: &mut [u8], at: usize, x: u8)
     requires { ⌜ at + 1 ≤ length (now area) ⌝ }

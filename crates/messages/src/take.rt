@@ -6,7 +6,8 @@ ghost use lib.ListN.{length, getD};
 ghost use Rattle.below.specs.Below.{listBelow};
 ghost use Rattle.messages.specs.Fields.{narrowStarts, narrowCounts, messageOf};
 ghost use Rattle.messages.specs.Fits.{narrowView};
-use views::{Cut, View};
+use views::Cut;
+use views::View;
 
 fn starts_of(fields: &[u64]) -> [u32; 8]
     requires { ⌜ length (now fields) ≡ 24 ⌝ }

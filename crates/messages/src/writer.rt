@@ -4,9 +4,16 @@ ghost use mathlib.Core.Logic.{_⊎_};
 ghost use Prim.Native.Nat.{_≤_};
 ghost use lib.ListN.{length, getD};
 ghost use Rattle.messages.specs.Fields.{numberWritten, areaWritten};
-use crate::fit::{cut_fits, numbers_fit, view_fits};
-use crate::put::{put_byte, put_cut, put_number, put_view, put_word};
-use crate::take::{cut_of, view_of};
+use crate::fit::cut_fits;
+use crate::fit::numbers_fit;
+use crate::fit::view_fits;
+use crate::put::put_byte;
+use crate::put::put_cut;
+use crate::put::put_number;
+use crate::put::put_view;
+use crate::put::put_word;
+use crate::take::cut_of;
+use crate::take::view_of;
 
 // Kind 1, a view, or 6, a membership view: the same tests.
 fn write_view(kind: u8, fields: &[u64], area: &mut [u8]) -> u8

@@ -1,5 +1,6 @@
 // The sync records that an end-point holds: up to four of each sender, oldest first.
-use views::{Cut, View};
+use views::Cut;
+use views::View;
 
 #[repr(C)]
 pub struct Record {

@@ -1,8 +1,9 @@
 // Sets, views and cuts, and the tests that every layer above makes on them. Each test takes any values, and its promise fixes its answer.
 
-pub mod sets;
 mod counts;
+pub mod sets;
 mod starts;
+
 pub use starts::starts_zero;
 
 // The start numbers stand first: the id and the set then share the last words.

@@ -4,8 +4,8 @@ ghost use Prim.Native.Nat.{_≤_};
 ghost use lib.ListN.{getD};
 ghost use Rattle.views.specs.Sets.{has};
 ghost use Rattle.views.specs.Views.{startFits, allZero, startsFit, startsSame, viewOk, same as sameOf};
-use crate::sets;
 use crate::View;
+use crate::sets;
 
 // Whether all start numbers are 0. The loops of eight have no way out but their end: a few vector instructions.
 pub fn starts_zero(starts: &[u32; 8]) -> bool
@@ -24,7 +24,11 @@ pub fn starts_zero(starts: &[u32; 8]) -> bool
 fn start_fits(set: u8, n: u8, start: u32) -> bool
     ensures { λ r. ⌜ r ≡ startFits (has set n) start ⌝ }
 {
-    if sets::contains(set, n) { start != 0 } else { start == 0 }
+    if sets::contains(set, n) {
+        start != 0
+    } else {
+        start == 0
+    }
 }
 
 fn starts_fit(set: u8, starts: &[u32; 8]) -> bool
