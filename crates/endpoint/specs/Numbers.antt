@@ -1,5 +1,13 @@
 -- "Numbers given back": a step is a table of checks in rising order of numbers, then its effect. The first check that applies gives the refusal,
 -- and a refusal gives only its number: the end-point and the area are as before. And what a step gives where it is accepted.
+--   1 an unsound end-point, a member number above 7, a malformed view, message or cut, a word area of another length, or a message from oneself
+--   2 a needed member is absent from a set            9 a named record of a member of both views is not held
+--   3 a start number or id is not newer              10 nothing to do
+--   4 out of turn                                    11 beyond the cut
+--   5 application send while blocked                 12 a due word has not been forwarded
+--   6 128 words are already there                    13 for some member of the current view, fewer words given out than agreed
+--   7 four slots in use and a fifth needed           14 another word is held at that place
+--   8 the declared set lacks a needed member         15 for some member of the current view, more words given out than agreed
 -- Assumes nothing.
 use Prim.Native.Nat.{ℕ}
 use mathlib.Core.Bool.{Bool, cond}

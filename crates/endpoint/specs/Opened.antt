@@ -6,7 +6,7 @@ use Rattle.views.specs.Cuts.{countOf, cutOk}
 use Rattle.views.specs.Sets.{has, within, size, only, setOf, joined, less}
 use Rattle.views.specs.Views.{startOf, allZero, startsFit, viewOk, startsSame, same}
 use Rattle.marks.specs.Beyond.{noneFrom}
-use Rattle.marks.specs.Bits.{bit as bit-bits, withBit}
+use Rattle.marks.specs.Bits.{withBit}
 use Rattle.marks.specs.Held.{isWord, heldAt, marked, runOf, noGap}
 use Rattle.marks.specs.Marks.{rowOf, heldIn, runIn, noGapIn, markedIn}
 use Rattle.messages.specs.Layouts.{body, bytesOf, lengthOf, blankView, fieldsFit, wellFormed}
@@ -28,5 +28,5 @@ use Rattle.endpoint.specs.Spent.{spentBy, spent}
 use Rattle.endpoint.specs.Steps.{checks, effect, stored, step, areaAfter}
 
 unfoldable pub opened : Unit {0}
-unfolding allBelow noneBelow countBelow largestBelow runFrom runBelow firstBelow times foldBelow fillBelow eachBelow joinBelow listBelow bit countOf cutOk has within size only setOf joined less startOf allZero startsFit viewOk startsSame same noneFrom bit-bits withBit isWord heldAt marked runOf noGap rowOf heldIn runIn noGapIn markedIn body bytesOf lengthOf blankView fieldsFit wellFormed recordAt recordCount findRecord holdsRecord theRecord newest storeRecord recordOk recordsWellFormed recordsRise recordsAtMost place tagAt marksAt used isFor slotOf hasSlot heldWord run markWord freed freeSlot hasFree taken withSlot allUsed slotsDiffer noGaps unfit ownRun sendChecks afterSend areaAfterSend blockOkChecks afterBlockOk askChecks afterAsk declaredSet declareChecks afterDeclare announceChecks announces ownNext passChecks passes ownCut syncOutChecks syncs due forwardMark dueAbove lowestDue owes dueIndex raised forwardOutChecks forwards freshSlots fresh nextGiven limit nothingNext beyondCut giveChecks givesNext giveOne giveMany batchNumber batch batchArea allMembers fewer more slotsAfter afterInstall installChecks startChecks afterStart membershipChecks afterMembership verdict settle settleArea ready namedHeld named inBoth inT T namedCut agreed unnamed unreceivable otherWord storeWord storeArea needsSlot viewChecks afterView nextWord live wordChecks afterWord areaAfterWord syncChecks afterSync forwardChecks afterForward areaAfterForward receiveChecks afterReceive areaAfterReceive heardFrom allOthers flagsOk viewsOk ownMember countsOk recordsOk slotsOk heardOk givenOk sound spentBy spent checks effect stored step areaAfter
+unfolding allBelow noneBelow countBelow largestBelow runFrom runBelow firstBelow times foldBelow fillBelow eachBelow joinBelow listBelow bit countOf cutOk has within size only setOf joined less startOf allZero startsFit viewOk startsSame same noneFrom withBit isWord heldAt marked runOf noGap rowOf heldIn runIn noGapIn markedIn body bytesOf lengthOf blankView fieldsFit wellFormed recordAt recordCount findRecord holdsRecord theRecord newest storeRecord recordOk recordsWellFormed recordsRise recordsAtMost place tagAt marksAt used isFor slotOf hasSlot heldWord run markWord freed freeSlot hasFree taken withSlot allUsed slotsDiffer noGaps unfit ownRun sendChecks afterSend areaAfterSend blockOkChecks afterBlockOk askChecks afterAsk declaredSet declareChecks afterDeclare announceChecks announces ownNext passChecks passes ownCut syncOutChecks syncs due forwardMark dueAbove lowestDue owes dueIndex raised forwardOutChecks forwards freshSlots fresh nextGiven limit nothingNext beyondCut giveChecks givesNext giveOne giveMany batchNumber batch batchArea allMembers fewer more slotsAfter afterInstall installChecks startChecks afterStart membershipChecks afterMembership verdict settle settleArea ready namedHeld named inBoth inT T namedCut agreed unnamed unreceivable otherWord storeWord storeArea needsSlot viewChecks afterView nextWord live wordChecks afterWord areaAfterWord syncChecks afterSync forwardChecks afterForward areaAfterForward receiveChecks afterReceive areaAfterReceive heardFrom allOthers flagsOk viewsOk ownMember countsOk recordsOk slotsOk heardOk givenOk sound spentBy spent checks effect stored step areaAfter
 opened = tt

@@ -71,6 +71,10 @@ four = viewOf 1 15 (1 ∷ 1 ∷ 1 ∷ 1 ∷ 0 ∷ 0 ∷ 0 ∷ 0 ∷ [])
 abbrev pub others : View
 others = viewOf 2 11 (2 ∷ 2 ∷ 0 ∷ 2 ∷ 0 ∷ 0 ∷ 0 ∷ 0 ∷ [])
 
+-- after the highest start number
+unfoldable pub highest : EndPoint
+highest = after desk (startChange 4294967295 1 ∷ []) .ep
+
 unfoldable pub seven : EndPoint
 seven = after desk (enter three ++ (words three 3 ++ (leave two ++ (synced 1 three 5 ∷ [])))) .ep
 
