@@ -16,14 +16,13 @@ use Rattle.below.proofs.Tests.{clash, and-left, and-right}
 use Rattle.below.proofs.All.{all-each}
 use Rattle.below.proofs.Bits.{bit-none}
 use Rattle.views.specs.Sets.{has}
-use Rattle.views.specs.Views.{allZero}
-use Rattle.views.specs.Cuts.{countFits, cutOk}
+use Rattle.views.specs.Views.{allZero, noView}
+use Rattle.views.specs.Cuts.{countFits, cutOk, noCut}
 use Rattle.views.specs.declared.View.{View}
 use Rattle.views.specs.declared.Cut.{Cut}
 use Rattle.messages.specs.declared.Message.{Message}
 use Rattle.messages.specs.declared.Reading.{Reading}
 use Rattle.messages.specs.Bytes.{le, numberAt, viewBody, viewAt, cutBytes, cutAt}
-use Rattle.messages.specs.Messages.{noView, noCut}
 use Rattle.messages.specs.Layouts.{hasNumber, hasPlace, hasView, hasCut, hasWord, hasSet, part, placeFits, blankView, body, bytesOf, lengthOf, wellFormed}
 use Rattle.messages.specs.Codec.{afterNumber, afterPlace, afterView, afterCut, afterWord, messageAt, reads, refused, readOf}
 use Rattle.messages.proofs.Numbers.{AreBytes, Stands, stands-join, stands-left, stands-right, stands-whole, stands-self, le-length, le-reads, le-stands, ViewRange, CutRange, view-length, cut-length, view-reads, view-stands, cut-reads, cut-stands}

@@ -5,10 +5,12 @@ use mathlib.Core.Bool.{Bool, cond, _&&_}
 use mathlib.Core.List.{List, _++_}
 use lib.Dec.{eqb, leb}
 use lib.ListN.{length, getD, drop}
+use Rattle.views.specs.Views.{noView}
+use Rattle.views.specs.Cuts.{noCut}
 use Rattle.messages.specs.declared.Message.{Message}
 use Rattle.messages.specs.declared.Reading.{Reading}
 use Rattle.messages.specs.Bytes.{numberAt, viewAt, cutAt}
-use Rattle.messages.specs.Messages.{blank, noView, noCut}
+use Rattle.messages.specs.Messages.{blank}
 use Rattle.messages.specs.Layouts.{hasNumber, hasPlace, hasView, hasCut, hasWord, hasSet, bytesOf, lengthOf, wellFormed}
 
 -- where the parts of a kind stand: behind the first byte and the parts before them

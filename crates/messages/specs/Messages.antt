@@ -1,16 +1,11 @@
 -- The six kinds of message, and one message of each: what its kind does not have is blank.
 -- Assumes nothing.
 use Prim.Native.Nat.{ℕ}
-use lib.ListN.{replicate}
+use Rattle.views.specs.Views.{noView}
+use Rattle.views.specs.Cuts.{noCut}
 use Rattle.views.specs.declared.View.{View}
 use Rattle.views.specs.declared.Cut.{Cut}
 use Rattle.messages.specs.declared.Message.{Message}
-
-abbrev pub noView : View
-noView = record { starts = replicate 8 0; id = 0; set = 0 }
-
-abbrev pub noCut : Cut
-noCut = record { counts = replicate 8 0 }
 
 -- nothing but a kind
 abbrev pub blank : ℕ → Message

@@ -1,6 +1,8 @@
 // A message of each kind, made from its parts.
 ghost use mathlib.Core.Path.{_≡_};
-ghost use Rattle.messages.specs.Messages.{noView, noCut, blank as blankOf, ofView as viewOf, ofWord as wordOf, ofSync as syncOf, ofForward as forwardOf, ofStartChange as startChangeOf};
+ghost use Rattle.views.specs.Views.{noView};
+ghost use Rattle.views.specs.Cuts.{noCut};
+ghost use Rattle.messages.specs.Messages.{blank as blankOf, ofView as viewOf, ofWord as wordOf, ofSync as syncOf, ofForward as forwardOf, ofStartChange as startChangeOf};
 use crate::Message;
 use views::Cut;
 use views::View;
