@@ -1,11 +1,14 @@
 -- The thirteen steps: for each event its table of checks, then what it answers and leaves in the word area. Assumes nothing.
 use Prim.Native.Nat.{ℕ}
-use mathlib.Core.List.{List}
+use mathlib.Core.Bool.{not}
+use mathlib.Core.List.{List, [], _∷_}
+use lib.Dec.{leb}
 use Rattle.views.specs.declared.View.{View}
 use Rattle.messages.specs.declared.Message.{Message}
 use Rattle.endpoint.specs.declared.EndPoint.{EndPoint}
 use Rattle.endpoint.specs.declared.Answer.{Answer}
-use Rattle.endpoint.specs.Numbers.{Check, accepted, declares, installs, settle, settleArea}
+use Rattle.endpoint.specs.Numbers.{Check, check, accepted, declares, installs, settle, settleArea}
+use Rattle.endpoint.specs.Fresh.{fresh}
 use Rattle.endpoint.specs.Ready.{T}
 use Rattle.endpoint.specs.Application.{sendChecks, afterSend, areaAfterSend, blockOkChecks, afterBlockOk}
 use Rattle.endpoint.specs.Membership.{startChecks, afterStart, membershipChecks, afterMembership}
@@ -84,3 +87,7 @@ step ev e area = settle (checks ev e area) e (effect ev e area)
 
 unfoldable pub areaAfter : Event → EndPoint → List ℕ → List ℕ
 areaAfter ev e area = settleArea (checks ev e area) area (stored ev e area)
+
+-- "Fresh end-point p (above 7: 1)"
+unfoldable pub freshStep : ℕ → Answer
+freshStep p = settle (check 1 (not (leb p 7)) ∷ []) (fresh p) (accepted (fresh p))
