@@ -26,10 +26,11 @@ use Rattle.slots.proofs.Freeing.{freed-shaped, freed-flags, freed-allUsed, free
 use Rattle.slots.proofs.With.{with-has, with-shaped, with-flags, with-allUsed, with-differ, with-gaps, with-other}
 use Rattle.endpoint.specs.declared.EndPoint.{EndPoint}
 use Rattle.endpoint.specs.State.{isPending}
-use Rattle.endpoint.specs.Fresh.{noMarks}
-use Rattle.endpoint.specs.Spent.{spentBy, spent}
+use Rattle.agreement.specs.Due.{noMarks}
+use Rattle.slots.specs.Spent.{spentBy}
+use Rattle.endpoint.specs.Spent.{spent}
 use Rattle.endpoint.specs.Ready.{ready}
-use Rattle.endpoint.specs.Due.{forwardMark}
+use Rattle.agreement.specs.Due.{forwardMark}
 use Rattle.endpoint.specs.Sound.{heardFrom, allOthers, flagsOk, viewsOk, ownMember, countsOk, recordsOk, slotsOk, heardOk, givenOk}
 use Rattle.endpoint.specs.Membership.{afterStart, afterMembership}
 use Rattle.endpoint.specs.Install.{slotsAfter, afterInstall}
@@ -68,11 +69,11 @@ module _ (e : EndPoint) (p : Parts e) where
   )
 
   counts-each : (leb (e .passed) 128 ≡ true) × (allOthers e (λ q. leb (getD (e .received) q 0) 128) ≡ true)
-      × (allBelow (λ r. leb (getD (e .given) r 0) 128) 8 ≡ true) × (allBelow (λ q. allBelow (λ r. leb (forwardMark e q r) 128) 8) 8 ≡ true)
+      × (allBelow (λ r. leb (getD (e .given) r 0) 128) 8 ≡ true) × (allBelow (λ q. allBelow (λ r. leb (forwardMark (e .forwarded) q r) 128) 8) 8 ≡ true)
   unfolding countsOk
   counts-each =
       sides-4 (leb (e .passed) 128) (allOthers e (λ q. leb (getD (e .received) q 0) 128))
-      (allBelow (λ r. leb (getD (e .given) r 0) 128) 8) (allBelow (λ q. allBelow (λ r. leb (forwardMark e q r) 128) 8) 8) (p .counts)
+      (allBelow (λ r. leb (getD (e .given) r 0) 128) 8) (allBelow (λ q. allBelow (λ r. leb (forwardMark (e .forwarded) q r) 128) 8) 8) (p .counts)
 
   records-each : (allBelow (recordsWellFormed (e .records)) 8 ≡ true) × (allBelow (recordsRise (e .records)) 8 ≡ true) × (recordsAtMost (e .records) (e .me) (e .change .number) ≡ true)
   unfolding recordsOk

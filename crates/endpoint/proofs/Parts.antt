@@ -12,9 +12,9 @@ use Rattle.below.proofs.Tests.{clash, and-both, and-left, and-right}
 use Rattle.below.proofs.All.{all-each, all-of}
 use Rattle.records.proofs.Store as Records
 use Rattle.slots.proofs.Finding as Slots
-use Rattle.endpoint.specs.declared.Row.{Row}
+use Rattle.agreement.specs.declared.Row.{Row}
 use Rattle.endpoint.specs.declared.EndPoint.{EndPoint}
-use Rattle.endpoint.specs.Fresh.{noMarks}
+use Rattle.agreement.specs.Due.{noMarks}
 use Rattle.endpoint.specs.Sound.{allOthers, flagsOk, viewsOk, ownMember, countsOk, recordsOk, slotsOk, heardOk, givenOk, sound}
 
 -- ---- the clauses

@@ -32,12 +32,13 @@ use Rattle.records.proofs.Find.{newest-below, absent-below}
 use Rattle.slots.specs.declared.Slots.{Slots}
 use Rattle.slots.specs.Slots.{marksAt, slotOf, heldWord, run}
 use Rattle.slots.proofs.Finding.{at-or-not, run-low}
-use Rattle.endpoint.specs.declared.Row.{Row}
+use Rattle.agreement.specs.declared.Row.{Row}
 use Rattle.endpoint.specs.declared.EndPoint.{EndPoint}
 use Rattle.endpoint.specs.State.{withBlock, withRecords}
-use Rattle.endpoint.specs.Fresh.{noMarks}
+use Rattle.agreement.specs.Due.{noMarks}
 use Rattle.endpoint.specs.Spent.{spent}
-use Rattle.endpoint.specs.Due.{forwardMark, lowestDue}
+use Rattle.agreement.specs.Due.{forwardMark}
+use Rattle.endpoint.specs.Due.{lowestDue}
 use Rattle.endpoint.specs.Sound.{heardFrom, allOthers, flagsOk, viewsOk, ownMember, countsOk, recordsOk, slotsOk, heardOk, givenOk}
 use Rattle.endpoint.specs.Application.{ownRun, afterBlockOk}
 use Rattle.endpoint.specs.Change.{afterAsk, afterDeclare, announces, passes, ownCut, ownRecord, syncs}

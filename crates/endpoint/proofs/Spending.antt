@@ -11,7 +11,7 @@ use Rattle.below.proofs.Tests.{clash, not-is, not-no, and-both, and-left, and-r
 use Rattle.views.specs.declared.View.{View}
 use Rattle.views.specs.Views.{startOf, same}
 use Rattle.views.proofs.Sameness.{Same, same-parts, same-left}
-use Rattle.endpoint.specs.Spent.{spentBy}
+use Rattle.slots.specs.Spent.{spentBy}
 
 -- ---- as a proposition
 

@@ -5,8 +5,9 @@ use mathlib.Core.Bool.{true}
 use mathlib.Core.Path.{_≡_, refl, ap}
 use lib.ListN.{length, getD, getD-replicate}
 use Rattle.slots.specs.Slots.{marksAt}
-use Rattle.endpoint.specs.declared.Row.{Row}
-use Rattle.endpoint.specs.Fresh.{fresh, noMarks}
+use Rattle.agreement.specs.declared.Row.{Row}
+use Rattle.agreement.specs.Due.{noMarks}
+use Rattle.endpoint.specs.Fresh.{fresh}
 use Rattle.endpoint.specs.Sound.{sound}
 use Rattle.endpoint.specs.Opened.{opened}
 use Rattle.endpoint.proofs.Parts.{Shaped}

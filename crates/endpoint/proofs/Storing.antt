@@ -26,7 +26,7 @@ use Rattle.slots.proofs.Taking.{taken-shaped, taken-flags, taken-has, taken-all
 use Rattle.endpoint.specs.declared.EndPoint.{EndPoint}
 use Rattle.endpoint.specs.State.{withSlots, withHeard}
 use Rattle.endpoint.specs.Spent.{spent}
-use Rattle.endpoint.specs.Due.{forwardMark}
+use Rattle.agreement.specs.Due.{forwardMark}
 use Rattle.endpoint.specs.Sound.{heardFrom, allOthers, flagsOk, viewsOk, ownMember, countsOk, recordsOk, slotsOk, heardOk, givenOk}
 use Rattle.endpoint.specs.Application.{ownRun, afterSend}
 use Rattle.endpoint.specs.Receive.{storeWord, needsSlot, afterView, nextWord, live, afterWord, afterForward}
@@ -76,7 +76,7 @@ module _ (e : EndPoint) (shape : Shaped e) (p : Parts e) where
       let c0 = leb (e .passed) 128 in
       let c1 = allOthers e (λ q. leb (getD (e .received) q 0) 128) in
       let c2 = allBelow (λ r. leb (getD (e .given) r 0) 128) 8 in
-      let c3 = allBelow (λ q. allBelow (λ r. leb (forwardMark e q r) 128) 8) 8 in
+      let c3 = allBelow (λ q. allBelow (λ r. leb (forwardMark (e .forwarded) q r) 128) 8) 8 in
       let s0 = noGaps (e .slots) (e .me) in
       let s1 = slotsDiffer (e .slots) in
       let s2 = allUsed (λ v. not (spent e v)) (e .slots) in
@@ -132,7 +132,7 @@ module _ (e : EndPoint) (shape : Shaped e) (p : Parts e) where
         let c0 = leb (e .passed) 128 in
         let c1 = allOthers e (λ q. leb (getD (e .received) q 0) 128) in
         let c2 = allBelow (λ r. leb (getD (e .given) r 0) 128) 8 in
-        let c3 = allBelow (λ q. allBelow (λ r. leb (forwardMark e q r) 128) 8) 8 in
+        let c3 = allBelow (λ q. allBelow (λ r. leb (forwardMark (e .forwarded) q r) 128) 8) 8 in
         and-both (and-left c0 (c1 && (c2 && c3)) (p .counts))
         (and-both (others-of (storing e ss vs cs) (λ q. leb (getD cs q 0) 128) (λ q l n. le-leb (getD cs q 0) 128 (t .received-low q l n)))
         (and-right c1 (c2 && c3) (and-right c0 (c1 && (c2 && c3)) (p .counts))))

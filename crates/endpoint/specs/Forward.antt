@@ -7,11 +7,11 @@ use lib.ListN.{getD, set}
 use Rattle.views.specs.Sets.{only}
 use Rattle.messages.specs.Messages.{ofForward}
 use Rattle.slots.specs.Slots.{place, slotOf}
-use Rattle.endpoint.specs.declared.Row.{Row}
+use Rattle.agreement.specs.declared.Row.{Row}
 use Rattle.endpoint.specs.declared.EndPoint.{EndPoint}
 use Rattle.endpoint.specs.declared.Answer.{Answer}
 use Rattle.endpoint.specs.State.{withForwarded}
-use Rattle.endpoint.specs.Fresh.{noMarks}
+use Rattle.agreement.specs.Due.{noMarks}
 use Rattle.endpoint.specs.Ready.{ready, unnamed}
 use Rattle.endpoint.specs.Due.{lowestDue}
 use Rattle.endpoint.specs.Application.{unfit}

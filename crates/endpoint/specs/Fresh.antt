@@ -7,13 +7,9 @@ use Rattle.views.specs.Views.{initial}
 use Rattle.records.specs.Records.{noRecords}
 use Rattle.slots.specs.declared.Slots.{Slots}
 use Rattle.slots.specs.Slots.{noSlots, tagFor}
-use Rattle.endpoint.specs.declared.Row.{Row}
+use Rattle.agreement.specs.Due.{noMarks}
 use Rattle.endpoint.specs.declared.Change.{Change}
 use Rattle.endpoint.specs.declared.EndPoint.{EndPoint}
-
--- forward marks all 0
-abbrev pub noMarks : Row
-noMarks = record { marks = replicate 8 0 }
 
 -- "start number 0, start set empty, nothing open or pending, free"
 abbrev pub noChange : Change

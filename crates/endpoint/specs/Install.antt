@@ -11,7 +11,7 @@ use Rattle.slots.specs.Slots.{freed, withSlot}
 use Rattle.endpoint.specs.declared.Change.{Change}
 use Rattle.endpoint.specs.declared.EndPoint.{EndPoint}
 use Rattle.endpoint.specs.State.{withSlots, withChange, withCurrent, withTold, withGiven}
-use Rattle.endpoint.specs.Spent.{spentBy}
+use Rattle.slots.specs.Spent.{spentBy}
 use Rattle.endpoint.specs.Ready.{ready, unnamed, agreed}
 use Rattle.endpoint.specs.Due.{owes}
 use Rattle.endpoint.specs.Sound.{sound}

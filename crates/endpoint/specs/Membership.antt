@@ -11,8 +11,8 @@ use Rattle.slots.specs.Slots.{freed}
 use Rattle.endpoint.specs.declared.Change.{Change}
 use Rattle.endpoint.specs.declared.EndPoint.{EndPoint}
 use Rattle.endpoint.specs.State.{withSlots, withChange, withMembership, withForwarded, isOpen}
-use Rattle.endpoint.specs.Fresh.{noMarks}
-use Rattle.endpoint.specs.Spent.{spentBy}
+use Rattle.agreement.specs.Due.{noMarks}
+use Rattle.slots.specs.Spent.{spentBy}
 use Rattle.endpoint.specs.Sound.{sound}
 use Rattle.endpoint.specs.Numbers.{Check, check}
 

@@ -1,13 +1,10 @@
--- "Ready.", named, T, agreed. Assumes nothing.
+-- "Ready.", and named, T, agreed of an end-point: their rules are in the agreement's crate. Assumes nothing.
 use Prim.Native.Nat.{ℕ}
-use mathlib.Core.Bool.{Bool, true, not, cond, _&&_}
+use mathlib.Core.Bool.{Bool, _&&_}
 use lib.Dec.{eqb, ltb}
-use Rattle.below.specs.Below.{allBelow, largestBelow}
-use Rattle.views.specs.Sets.{has, setOf}
-use Rattle.views.specs.Views.{startOf, same}
-use Rattle.views.specs.Cuts.{countOf}
+use Rattle.views.specs.Views.{startOf}
 use Rattle.records.specs.declared.Record.{Record}
-use Rattle.records.specs.Records.{holdsRecord, theRecord}
+use Rattle.agreement.specs.Named as Rule
 use Rattle.endpoint.specs.declared.EndPoint.{EndPoint}
 use Rattle.endpoint.specs.State.{isPending}
 
@@ -15,32 +12,28 @@ use Rattle.endpoint.specs.State.{isPending}
 unfoldable pub ready : EndPoint → Bool
 ready e = isPending e && (ltb (e .current .id) (e .membership .id) && eqb (startOf (e .membership) (e .me)) (e .change .number))
 
--- "The named record of r is the one held with the membership view's start number for r."
+-- the named record of r, and whether it is held
 unfoldable pub namedHeld : EndPoint → ℕ → Bool
-namedHeld e r = holdsRecord (e .records) r (startOf (e .membership) r)
+namedHeld e r = Rule.namedHeld (e .membership) (e .records) r
 
 unfoldable pub named : EndPoint → ℕ → Record
-named e r = theRecord (e .records) r (startOf (e .membership) r)
+named e r = Rule.named (e .membership) (e .records) r
 
--- r is a member of both views
-unfoldable pub inBoth : EndPoint → ℕ → Bool
-inBoth e r = has (e .current .set) r && has (e .membership .set) r
-
--- "T is the members of both views whose named record carries the current view."
+-- r is in T, and T
 unfoldable pub inT : EndPoint → ℕ → Bool
-inT e r = inBoth e r && (namedHeld e r && same (named e r .view) (e .current))
+inT e r = Rule.inT (e .current) (e .membership) (e .records) r
 
 unfoldable pub T : EndPoint → ℕ
-T e = setOf (inT e)
+T e = Rule.T (e .current) (e .membership) (e .records)
 
 -- r's named record's count for sender s
 unfoldable pub namedCut : EndPoint → ℕ → ℕ → ℕ
-namedCut e r s = countOf (named e r .cut) s
+namedCut e r s = Rule.namedCut (e .membership) (e .records) r s
 
--- "The agreed count of r is the largest of the T records' cuts for r, 0 if T is empty."
+-- the agreed count of r
 unfoldable pub agreed : EndPoint → ℕ → ℕ
-agreed e r = largestBelow (λ m. cond (inT e m) (namedCut e m r) 0) 8
+agreed e r = Rule.agreed (e .current) (e .membership) (e .records) r
 
 -- 9: "a named record of a member of both views is not held"
 unfoldable pub unnamed : EndPoint → Bool
-unnamed e = not (allBelow (λ r. cond (inBoth e r) (namedHeld e r) true) 8)
+unnamed e = Rule.unnamed (e .current) (e .membership) (e .records)

@@ -11,7 +11,7 @@ use Rattle.records.specs.Records.{recordsWellFormed, recordsRise, recordsAtMost
 use Rattle.slots.specs.Slots.{tagAt, hasSlot, run, allUsed, slotsDiffer, noGaps}
 use Rattle.endpoint.specs.declared.EndPoint.{EndPoint}
 use Rattle.endpoint.specs.Spent.{spent}
-use Rattle.endpoint.specs.Due.{forwardMark}
+use Rattle.agreement.specs.Due.{forwardMark}
 
 -- the announced view of q
 unfoldable pub heardFrom : EndPoint → ℕ → View
@@ -43,7 +43,7 @@ unfoldable pub countsOk : EndPoint → Bool
 countsOk e =
     leb (e .passed) 128
     && (allOthers e (λ q. leb (getD (e .received) q 0) 128)
-    && (allBelow (λ r. leb (getD (e .given) r 0) 128) 8 && allBelow (λ q. allBelow (λ r. leb (forwardMark e q r) 128) 8) 8))
+    && (allBelow (λ r. leb (getD (e .given) r 0) 128) 8 && allBelow (λ q. allBelow (λ r. leb (forwardMark (e .forwarded) q r) 128) 8) 8))
 
 -- "its records' views and their cuts are well formed", "each sender's records (at most four) rise in number, p's own none above the latest start number"
 unfoldable pub recordsOk : EndPoint → Bool

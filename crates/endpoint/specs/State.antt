@@ -7,7 +7,7 @@ use lib.Dec.{eqb}
 use Rattle.views.specs.declared.View.{View}
 use Rattle.records.specs.declared.Records.{Records}
 use Rattle.slots.specs.declared.Slots.{Slots}
-use Rattle.endpoint.specs.declared.Row.{Row}
+use Rattle.agreement.specs.declared.Row.{Row}
 use Rattle.endpoint.specs.declared.Change.{Change}
 use Rattle.endpoint.specs.declared.EndPoint.{EndPoint}
 

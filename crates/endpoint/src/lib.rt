@@ -1,14 +1,9 @@
 // The end-point's state: "What an end-point remembers". Every field is an integer, so every bit pattern is a value, and `sound` decides.
+use agreement::Row;
 use messages::Message;
 use records::Records;
 use slots::Slots;
 use views::View;
-
-// The forward marks of one destination, by sender.
-#[repr(C)]
-pub struct Row {
-    pub marks: [u8; 8],
-}
 
 // The change that the membership service has started: latest start number and set, whether it is open and pending, the block state.
 // opened and pending are 0 or 1; block is 0 free, 1 asked, 2 blocked.

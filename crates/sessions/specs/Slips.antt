@@ -12,14 +12,15 @@ use Rattle.messages.specs.Messages.{ofView, ofWord, ofSync}
 use Rattle.endpoint.specs.declared.EndPoint.{EndPoint}
 use Rattle.endpoint.specs.State.{withForwarded, isOpen}
 use Rattle.endpoint.specs.Fresh.{fresh}
-use Rattle.endpoint.specs.Ready.{inBoth, namedHeld, named}
+use Rattle.agreement.specs.Named.{inBoth}
+use Rattle.endpoint.specs.Ready.{namedHeld, named}
 use Rattle.endpoint.specs.Steps.{Event, step, startChange, membershipView, receive, sync, forward}
 use Rattle.sessions.specs.Play.{Desk, desk, after, viewOf, cutOf}
 use Rattle.sessions.specs.Sessions.{enter, leave, words, synced, three, two, four, others}
 
 -- "Views compared by id alone: two partitions may use one id."
 unfoldable pub inTById : EndPoint → ℕ → Bool
-inTById e r = inBoth e r && (namedHeld e r && eqb (named e r .view .id) (e .current .id))
+inTById e r = inBoth (e .current) (e .membership) r && (namedHeld e r && eqb (named e r .view .id) (e .current .id))
 
 -- "Open and pending kept as one flag: the first ends at the membership view, the second at install."
 unfoldable pub readyByOpen : EndPoint → Bool
