@@ -1,7 +1,17 @@
 // What the members of both views agree on: T, the agreed counts, and the words that are due, by the records held.
-use records::Records;
+// Each function is total and its promise fixes its answer.
 use views::Cut;
-use views::View;
+
+mod agreeing;
+mod lowest;
+mod marking;
+mod owing;
+mod rising;
+
+pub use agreeing::agree;
+pub use marking::mark_of;
+pub use marking::no_rows;
+pub use marking::raised;
 
 // The forward marks of one destination, by sender.
 #[repr(C)]
@@ -16,4 +26,11 @@ pub struct Agreement {
     pub counts: Cut,
     pub set: u8,
     pub unnamed: bool,
+}
+
+// What the pass finds of one member: its cut where it is in T, and none elsewhere; whether it is in T; whether its named record is held where it is a member of both views.
+struct Part {
+    cut: Cut,
+    agrees: bool,
+    named: bool,
 }

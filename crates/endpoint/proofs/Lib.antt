@@ -1,4 +1,5 @@
 pub mod Verdicts
+pub mod Settling
 pub mod Start
 pub mod Spending
 pub mod Parts
@@ -6,3 +7,8 @@ pub mod Storing
 pub mod Changing
 pub mod Plain
 pub mod Kept
+pub mod Passing
+pub mod Planning
+pub mod Agreed
+pub mod Receiving
+pub mod Batching

@@ -4,10 +4,12 @@ use native.Mathlib.Omega.{arith}
 use mathlib.Core.Bool.{true}
 use mathlib.Core.Path.{_≡_, refl, ap}
 use lib.ListN.{length, getD, getD-replicate}
-use Rattle.slots.specs.Slots.{marksAt}
+use Rattle.below.specs.Below.{firstBelow, runBelow, runFrom}
+use Rattle.views.specs.Views.{initial}
+use Rattle.slots.specs.Slots.{marksAt, taken, noSlots, freeSlot, used, tagAt}
 use Rattle.agreement.specs.declared.Row.{Row}
 use Rattle.agreement.specs.Due.{noMarks}
-use Rattle.endpoint.specs.Fresh.{fresh}
+use Rattle.endpoint.specs.Fresh.{fresh, freshSlots}
 use Rattle.endpoint.specs.Sound.{sound}
 use Rattle.endpoint.specs.Opened.{opened}
 use Rattle.endpoint.proofs.Parts.{Shaped}
@@ -44,3 +46,8 @@ fresh-shaped p =
     rows (suc (suc zero)) = refl
     rows (suc (suc (suc zero))) = refl
     rows (suc (suc (suc (suc s)))) = refl
+
+-- the fresh slots are those of the initial view taken where all four are free
+pub fresh-slots : (p : ℕ) → taken (initial p) noSlots ≡ freshSlots p
+unfolding taken freshSlots freeSlot firstBelow runBelow runFrom used tagAt
+fresh-slots p = refl

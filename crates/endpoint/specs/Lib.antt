@@ -13,4 +13,5 @@ pub mod Forward
 pub mod Give
 pub mod Install
 pub mod Steps
+pub mod Pass
 pub mod Opened

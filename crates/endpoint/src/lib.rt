@@ -1,4 +1,16 @@
-// The end-point's state: "What an end-point remembers". Every field is an integer, so every bit pattern is a value, and `sound` decides.
+// The end-point: its state, its thirteen steps and the batch. Every field is an integer, so every bit pattern is a value, and `sound` decides.
+mod answers;
+mod application;
+mod batches;
+mod forward;
+mod fresh;
+mod give;
+mod install;
+mod membership;
+mod own;
+mod receive;
+mod sound;
+
 use agreement::Row;
 use messages::Message;
 use records::Records;
@@ -16,7 +28,7 @@ pub struct Change {
     pub block: u8,
 }
 
-// told is 1 where the current view is announced. p's own entries of heard and received are not part of what it remembers.
+// "What an end-point remembers". told is 1 where the current view is announced. p's own entries of heard and received are no part of it.
 #[repr(C)]
 pub struct EndPoint {
     pub current: View,
@@ -43,4 +55,39 @@ pub struct Answer {
     pub word: u64,
     pub number: u8,
     pub set: u8,
+}
+
+// What a batch answers: the end-point after it, how many single give-outs it equals, its number.
+#[repr(C)]
+pub struct Batch {
+    pub ep: EndPoint,
+    pub count: u64,
+    pub number: u8,
+}
+
+// A step's number and, where that is 0, the slot and the index of the word that it is about.
+struct Plan {
+    number: u8,
+    slot: u8,
+    index: u8,
+}
+
+// A received view's number, and whether it takes a slot.
+struct ViewPlan {
+    number: u8,
+    needs: bool,
+}
+
+// A received word's number, whether it is stored, and where.
+struct WordPlan {
+    number: u8,
+    stored: bool,
+    slot: u8,
+    index: u8,
+}
+
+// Install's number and, where that is 0, T.
+struct InstallPlan {
+    number: u8,
+    set: u8,
 }

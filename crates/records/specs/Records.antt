@@ -64,3 +64,7 @@ recordsRise rs r = leb (recordCount rs r) 4 && allBelow (λ k. ltb (recordAt rs 
 -- "p's own none above the latest start number"
 unfoldable pub recordsAtMost : Records → ℕ → ℕ → Bool
 recordsAtMost rs r n = allBelow (λ k. leb (recordAt rs r k .number) n) (recordCount rs r)
+
+-- all that sound asks of records: "its records' views and their cuts are well formed", "each sender's records (at most four) rise in number, p's own none above the latest start number"
+abbrev pub recordsFit : Records → ℕ → ℕ → Bool
+recordsFit rs p n = allBelow (recordsWellFormed rs) 8 && (allBelow (recordsRise rs) 8 && recordsAtMost rs p n)

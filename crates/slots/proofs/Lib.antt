@@ -4,3 +4,7 @@ pub mod Freeing
 pub mod Taking
 pub mod With
 pub mod Places
+pub mod Tags
+pub mod Sound
+pub mod Elements
+pub mod Branches

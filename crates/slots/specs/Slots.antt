@@ -2,6 +2,7 @@
 -- A free slot holds no view: no definition reads what its place still has. Assumes nothing.
 use Prim.Native.Nat.{ℕ, _+_, _-_, _*_}
 use mathlib.Core.Bool.{Bool, true, not, cond, _&&_}
+use mathlib.Core.List.{List}
 use lib.Dec.{eqb, ltb}
 use lib.ListN.{getD, set, replicate}
 use Rattle.below.specs.Below.{allBelow, firstBelow, eachBelow}
@@ -43,6 +44,10 @@ isFor ss v s = used ss s && same (tagAt ss s .view) v
 unfoldable pub slotOf : Slots → View → ℕ
 slotOf ss v = firstBelow (isFor ss v) 4
 
+-- the same of the tags alone
+unfoldable pub slotIn : List Tag → View → ℕ
+slotIn tags v = firstBelow (λ s. eqb (getD tags s noTag .used) 1 && same (getD tags s noTag .view) v) 4
+
 unfoldable pub hasSlot : Slots → View → Bool
 hasSlot ss v = ltb (slotOf ss v) 4
 
@@ -58,6 +63,10 @@ run ss v r = runIn (marksAt ss (slotOf ss v)) r
 unfoldable pub markWord : Slots → View → ℕ → ℕ → Slots
 markWord ss v r i = record { tags = ss .tags; marks = set (ss .marks) (slotOf ss v) (markedIn (marksAt ss (slotOf ss v)) r i) }
 
+-- word i of r in slot s marked as held
+unfoldable pub markIn : Slots → ℕ → ℕ → ℕ → Slots
+markIn ss s r i = record { tags = ss .tags; marks = set (ss .marks) s (markedIn (marksAt ss s) r i) }
+
 -- "A slot is freed at the step that makes its view spent": the flag alone changes
 abbrev pub freedTag : (View → Bool) → Tag → Tag
 freedTag gone t = cond (gone (t .view)) (record { view = t .view; used = 0 }) t
@@ -68,6 +77,10 @@ freed gone ss = record { tags = eachBelow noTag (freedTag gone) (ss .tags) 4; ma
 -- the lowest free slot: 4 where there is none
 unfoldable pub freeSlot : Slots → ℕ
 freeSlot ss = firstBelow (λ s. not (used ss s)) 4
+
+-- the same of the tags alone
+unfoldable pub freeIn : List Tag → ℕ
+freeIn tags = firstBelow (λ s. not (eqb (getD tags s noTag .used) 1)) 4
 
 unfoldable pub hasFree : Slots → Bool
 hasFree ss = ltb (freeSlot ss) 4
@@ -89,6 +102,13 @@ allUsed f ss = allBelow (λ s. cond (used ss s) (f (tagAt ss s .view)) true) 4
 -- "its slots hold different views"
 unfoldable pub slotsDiffer : Slots → Bool
 slotsDiffer ss = allBelow (λ s. allBelow (λ t. not (used ss s && (used ss t && same (tagAt ss s .view) (tagAt ss t .view)))) s) 4
+
+-- the same of the tags alone
+unfoldable pub differIn : List Tag → Bool
+differIn tags =
+    allBelow
+    (λ s. allBelow (λ t. not (eqb (getD tags s noTag .used) 1 && (eqb (getD tags t noTag .used) 1 && same (getD tags s noTag .view) (getD tags t noTag .view)))) s)
+    4
 
 -- "in each slot p's own held words have no gap from word 1"
 unfoldable pub noGaps : Slots → ℕ → Bool

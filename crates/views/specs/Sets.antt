@@ -33,3 +33,7 @@ joined a b = setOf (λ n. has a n || has b n)
 -- a less member n
 unfoldable pub less : ℕ → ℕ → ℕ
 less a n = setOf (λ k. has a k && not (eqb k n))
+
+-- a, joined with {n} where f holds
+unfoldable pub withIf : ℕ → ℕ → Bool → ℕ
+withIf a n f = cond f (joined a (only n)) a

@@ -3,7 +3,7 @@ ghost use mathlib.Core.Path.{_≡_};
 ghost use Prim.Native.Nat.{_≤_};
 ghost use lib.ListN.{getD};
 ghost use Rattle.views.specs.Sets.{has};
-ghost use Rattle.views.specs.Views.{startFits, allZero, startsFit, startsSame, viewOk, same as sameOf};
+ghost use Rattle.views.specs.Views.{noView, initial as initialOf, startOf, startFits, allZero, startsFit, startsSame, viewOk, same as sameOf};
 use crate::View;
 use crate::sets;
 
@@ -59,6 +59,37 @@ fn starts_same<'a>(a: &'a [u32; 8], b: &'a [u32; 8]) -> bool
 }
 
 impl View {
+    // No view: what stands where there is none.
+    pub fn none() -> View
+        ensures { λ r. ⌜ r ≡ noView ⌝ }
+    {
+        let starts = [0u32; 8];
+        View {
+            starts,
+            id: 0,
+            set: 0,
+        }
+    }
+
+    // Member p's initial view.
+    pub fn initial(p: u8) -> View
+        ensures { λ r. ⌜ r ≡ initialOf p ⌝ }
+    {
+        let mut v = View::none();
+        v.set = sets::only(p);
+        v
+    }
+
+    // The start number of member n: 0 above 7.
+    pub fn start(self, n: u8) -> u32
+        ensures { λ r. ⌜ r ≡ startOf self n ⌝ }
+    {
+        if 8 <= n {
+            return 0;
+        }
+        self.starts[n as usize]
+    }
+
     // Whether the view is well formed.
     pub fn well_formed(self) -> bool
         ensures { λ r. ⌜ r ≡ viewOk self ⌝ }

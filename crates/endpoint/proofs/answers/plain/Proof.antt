@@ -1,0 +1,16 @@
+-- `plain` meets its contract. Assumes nothing.
+use borrow.Author.Needs.{needs}
+use Rattle.endpoint.proofs.answers.plain.Statement.{statement}
+use Rattle.endpoint.proofs.answers.plain.Tie as tie
+
+blank-requires : tie.Need-blank-requires
+blank-requires c κs = search needs
+
+none-requires : tie.Need-none-requires
+none-requires c κs = search needs
+
+returns : tie.Need-returns
+returns c = rw (c .before .blank .ensures, c .none .ensures)
+
+pub plain-spec : {M : Type 1} → statement M
+plain-spec = tie.close (tie.spec blank-requires none-requires returns)

@@ -1,0 +1,13 @@
+-- `sends` meets its contract. Assumes nothing.
+use borrow.Author.Needs.{needs}
+use Rattle.endpoint.proofs.answers.sends.Statement.{statement}
+use Rattle.endpoint.proofs.answers.sends.Tie as tie
+
+none-requires : tie.Need-none-requires
+none-requires c κs = search needs
+
+returns : tie.Need-returns
+returns c = rw (c .none .ensures)
+
+pub sends-spec : {M : Type 1} → statement M
+sends-spec = tie.close (tie.spec none-requires returns)

@@ -1,0 +1,67 @@
+// The application's steps: send, block-ok.
+ghost use mathlib.Core.List.{[]};
+ghost use mathlib.Core.Path.{_≡_};
+ghost use Prim.Native.Nat.{_+_};
+ghost use Rattle.slots.specs.Slots.{slotOf};
+ghost use Rattle.endpoint.specs.Application.{ownRun, sendChecks};
+ghost use Rattle.endpoint.specs.Pass.{Planned};
+ghost use Rattle.endpoint.specs.Steps.{step, areaAfter, send as sendOf, blockOk};
+use crate::Answer;
+use crate::EndPoint;
+use crate::Plan;
+use crate::answers;
+use crate::sound;
+
+// Where p's next own word stands.
+fn send_plan(e: EndPoint, area: &[u64]) -> Plan
+    ensures { λ r. ⌜ Planned (sendChecks e (now (area .entry))) (slotOf (e .slots) (e .current)) (ownRun e + 1) r ⌝ }
+{
+    if sound::unfit(e, area) {
+        return Plan {
+            number: 1,
+            slot: 0,
+            index: 0,
+        };
+    }
+    let held = e.slots;
+    let tags = held.tags;
+    let rows = held.marks;
+    let slot = slots::slot_in(tags, e.current);
+    let run = marks::run_in(slots::marks_in(rows, slot), e.me);
+    let full = answers::first(6, run == 128, 0);
+    Plan {
+        number: answers::first(5, e.change.block == 2, full),
+        slot,
+        index: run + 1,
+    }
+}
+
+impl EndPoint {
+    // Application send: appends the word to p's own in the current view.
+    pub fn send(mut self, area: &mut [u64], w: u64) -> Answer
+        ensures { λ r. ⌜ (r ≡ step (sendOf w) self (now (area .entry))) × (now (area .exit) ≡ areaAfter (sendOf w) self (now (area .entry))) ⌝ }
+    {
+        let p = send_plan(self, area);
+        if p.number != 0 {
+            return answers::plain(self, p.number);
+        }
+        let at = slots::place(p.slot, self.me, p.index);
+        area[at] = w;
+        let next = self.slots.mark(p.slot, self.me, p.index);
+        self.slots = next;
+        answers::plain(self, 0)
+    }
+
+    // Block-ok: becomes blocked.
+    pub fn block_ok(mut self) -> Answer
+        ensures { λ r. ⌜ r ≡ step blockOk self [] ⌝ }
+    {
+        let ok = sound::sound(self);
+        let number = answers::first(1, !ok, answers::first(4, self.change.block != 1, 0));
+        if number != 0 {
+            return answers::plain(self, number);
+        }
+        self.change.block = 2;
+        answers::plain(self, 0)
+    }
+}
