@@ -1,4 +1,7 @@
-// The C driver's side: messages read and written by numbers in a field area and bytes in a byte area. include/nhuoseng.h declares these calls.
+// The C driver's side: here messages, read and written by numbers in a field area and bytes in a byte area; the end-point's steps are in steps.
+// include/nhuoseng.h declares these calls.
+mod steps;
+
 ghost use mathlib.Core.Path.{_≡_};
 ghost use Prim.Native.Nat.{_≤_};
 ghost use Rattle.messages.specs.Layouts.{lengthOf};
