@@ -9,7 +9,6 @@ mod owing;
 mod rising;
 
 pub use agreeing::agree;
-pub use marking::mark_of;
 pub use marking::no_rows;
 pub use marking::raised;
 

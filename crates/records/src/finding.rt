@@ -1,38 +1,13 @@
 // The record with a number, and the newest. A sender above 7 has none; past the last place there is nothing, whatever a count says.
 ghost use mathlib.Core.Path.{_≡_};
-ghost use Rattle.records.specs.Records.{findRecord, holdsRecord, theRecord, newest as newestOf};
+ghost use Rattle.records.specs.Records.{holdsRecord, theRecord, newest as newestOf};
 use crate::Record;
 use crate::Records;
 use crate::place;
 use crate::storing;
 
 impl Records {
-    // Where r's record with this number stands: its count where none is held.
-    pub fn find(self, r: u8, number: u32) -> u8
-        ensures { λ k. ⌜ k ≡ findRecord self r number ⌝ }
-    {
-        if 8 <= r {
-            return 0;
-        }
-        let count = self.counts[r as usize];
-        let mut k: u8 = 0;
-        while k < count {
-            let at = place(r, k);
-            if 32 <= at {
-                if number == 0 {
-                    return k;
-                }
-                return count;
-            }
-            if self.held[at].number == number {
-                return k;
-            }
-            k += 1;
-        }
-        count
-    }
-
-    // Whether a record of r with this number is held. The loop is written out again here and below: a call would copy all the records.
+    // Whether a record of r with this number is held. The loop is written out here and below: a call would copy all the records.
     pub fn holds(self, r: u8, number: u32) -> bool
         ensures { λ b. ⌜ b ≡ holdsRecord self r number ⌝ }
     {

@@ -1,0 +1,12 @@
+pub mod Positions
+pub mod Views
+pub mod Agreed
+pub mod Held
+pub mod Invariant
+pub mod Streams
+pub mod Acting
+pub mod Growing
+pub mod Channels
+pub mod Reached
+pub mod Theorem
+pub mod Alone

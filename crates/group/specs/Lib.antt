@@ -1,0 +1,5 @@
+pub mod Group
+pub mod Logs
+pub mod Demand3
+pub mod WingRack
+pub mod Opened

@@ -1,0 +1,1 @@
+// The group of end-points and channels, as definitions. No code.
