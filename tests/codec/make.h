@@ -18,7 +18,7 @@ unsigned dice_below(unsigned n);
 enum { EDGES = 12 };
 extern const uint64_t edges[EDGES];
 
-/* The lengths of the kinds 1 to 6, as document 01 gives them; 0 for kind 0. */
+/* The lengths of the kinds 1 to 6, as the scope gives them; 0 for kind 0. */
 enum { KINDS = 6 };
 extern const uint8_t lengths[KINDS + 1];
 

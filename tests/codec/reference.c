@@ -1,5 +1,5 @@
 /*
- * The reference: reads and writes messages, written from document 01 and the
+ * The reference: reads and writes messages, written from the scope and the
  * public header alone. It shares no code with the library, so that the test can
  * compare the two and the benchmark can measure one beside the other.
  * Assumes what the header says of pointers and counts; any byte order will do.

@@ -1,7 +1,7 @@
 /*
- * An end-point of document 01: what it remembers, its thirteen steps, the batch.
+ * An end-point of the scope: what it remembers, its thirteen steps, the batch.
  *
- * A step changes the end-point in place. It gives document 01's number: 0 is
+ * A step changes the end-point in place. It gives the scope's number: 0 is
  * accepted; any other is a refusal, and then the end-point, the word area and
  * every answer are as they were. Each step takes any bytes as an end-point: one
  * that is not sound is refused with 1. Built with MODEL_TRUSTING, a step leaves

@@ -1,5 +1,5 @@
 /*
- * Facts about an end-point that more than one step uses, in document 01's words:
+ * Facts about an end-point that more than one step uses, in the scope's words:
  * spent and slots, run, ready, named, T, agreed, due; and the few changes that
  * steps share. Private to the model.
  *

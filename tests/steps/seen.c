@@ -1,5 +1,5 @@
 /*
- * Counts what the test has seen. Which numbers a step can give is document 01's.
+ * Counts what the test has seen. Which numbers a step can give is the scope's.
  */
 #include "seen.h"
 

@@ -1,4 +1,4 @@
--- The group: n end-points, and between any two a channel, figure 3 of source 001: it keeps order, adds nothing, and loses only a tail towards someone outside its sender's declared set.
+-- The group: n end-points, and between any two a channel, figure 3 of the source (Keidar and Khazan): it keeps order, adds nothing, and loses only a tail towards someone outside its sender's declared set.
 -- End-points are numbered from 0, and those from n on take no step. A refused step is no action. Assumes nothing.
 use mathlib.Core.Path.{_≡_}
 use mathlib.Core.List.{List, [], _∷_, _++_}

@@ -1,4 +1,4 @@
--- The state of one end-point: figures 9, 10 and 11 of source 001, with functions for its tables, and four logs of what it did, which decide nothing.
+-- The state of one end-point: figures 9, 10 and 11 of the source (Keidar and Khazan), with functions for its tables, and four logs of what it did, which decide nothing.
 -- Not here, because no promise rests on them: start_change.set and forwarded_set. Assumes nothing.
 use mathlib.Core.List.{List, _∷_}
 use mathlib.Core.Bool.{Bool, true, false}

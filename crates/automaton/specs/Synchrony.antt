@@ -1,4 +1,4 @@
--- What is promised of a group: virtual synchrony and self delivery, sections 4.1.2 and 4.1.4 of source 001, for members that moved straight from v to v′. Assumes nothing.
+-- What is promised of a group: virtual synchrony and self delivery, sections 4.1.2 and 4.1.4 of the source (Keidar and Khazan), for members that moved straight from v to v′. Assumes nothing.
 use mathlib.Core.Path.{_≡_}
 use mathlib.Core.List.{List, List·Memᴰ}
 use Prim.Native.Nat.{ℕ}
