@@ -1,0 +1,10 @@
+pub mod Sameness
+pub mod Words
+pub mod Records
+pub mod Parts
+pub mod Plain
+pub mod Receiving
+pub mod Steps
+pub mod Simulation
+pub mod Running
+pub mod Demand3
