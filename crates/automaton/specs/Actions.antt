@@ -1,7 +1,7 @@
 -- The actions of one end-point p among n: figures 9, 10 and 11 of the source (Keidar and Khazan), the view step of figure 9 by its sections 3.1, 4.1.1 and 5.2. A constructor an action.
 -- A table that an action changes is an argument, with what is known of it place by place; so whoever shows an action may hold its tables in any form.
 -- A precondition that no promise rests on is left out, which only adds runs: the limits of deliver (last_sent, the cuts), ForwardStrategyPredicate,
--- who a sync and a forward go to, and a sync's cuts for others. What is asked besides is document 01's: no send while blocked, nothing from oneself, own words and the own latest record not lost.
+-- who a sync and a forward go to, and a sync's cuts for others. What is asked besides is the scope's: no send while blocked, nothing from oneself, own words and the own latest record not lost.
 -- Words held may be freed, where the source frees none. Assumes nothing.
 use mathlib.Core.Path.{_≡_}
 use mathlib.Core.List.{[], _∷_, _++_}
