@@ -1,5 +1,5 @@
 -- "Up to four sync records per sender (start number, view, cut)", oldest first; the rule of four; when they are well formed and rise.
--- What stands beyond a sender's count is not held, and no definition reads it. Assumes nothing.
+-- What stands beyond a sender's count is not held; only `theRecord` reads it, where no record with the number is held, and no step goes by that. Assumes nothing.
 use Prim.Native.Nat.{ℕ, _+_, _-_, _*_}
 use mathlib.Core.Bool.{Bool, cond, _&&_}
 use lib.Dec.{eqb, ltb, leb}
