@@ -4,10 +4,10 @@ ghost use Prim.Native.Nat.{_+_, _≤_};
 ghost use lib.ListN.{length};
 ghost use Rattle.messages.specs.Fields.{narrowStarts, narrowCounts};
 ghost use Rattle.messages.specs.Fits.{belowOrZero, numbersFit, zeroRow, cutFieldsFit, viewFieldsFit};
-use crate::parts::has_number;
-use crate::parts::has_view;
-use crate::parts::place_fits;
-use crate::parts::word_fits;
+use crate::formed::has_number;
+use crate::formed::has_view;
+use crate::formed::place_fits;
+use crate::formed::word_fits;
 use crate::take::cut_of;
 use crate::take::view_of;
 

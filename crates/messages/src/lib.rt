@@ -5,10 +5,10 @@ use views::View;
 
 mod codec;
 mod fit;
+mod formed;
 mod get;
 mod give;
 mod made;
-mod parts;
 mod put;
 mod reader;
 mod take;

@@ -7,13 +7,13 @@ ghost use Rattle.messages.specs.Layouts.{lengthOf};
 ghost use Rattle.messages.specs.Fields.{readNumber, fieldsRead};
 use crate::Message;
 use crate::codec::length_of;
+use crate::formed::place_fits;
 use crate::get::byte_at;
 use crate::get::cut_at;
 use crate::get::number_at;
 use crate::get::view_at;
 use crate::get::word_at;
 use crate::give::give;
-use crate::parts::place_fits;
 
 // Kind 1, a view, or 6, a membership view.
 fn read_view(bytes: &[u8], kind: u8, fields: &mut [u64]) -> u8
