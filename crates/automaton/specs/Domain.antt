@@ -1,4 +1,4 @@
--- What the end-points speak of: views and words of any kind. Source 001, section 3.1: "A view v is a triple consisting of an identifier v.id, a set of members v.set,
+-- What the end-points speak of: views and words of any kind. The source, section 3.1: "A view v is a triple consisting of an identifier v.id, a set of members v.set,
 -- and a function v.startId that maps members of v to start_change identifiers. Two views are the same if they consist of identical triples." Assumes nothing.
 use mathlib.Core.Path.{_≡_}
 use mathlib.Core.Bool.{Bool, true}
