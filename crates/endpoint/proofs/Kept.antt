@@ -64,7 +64,7 @@ step-passed ev e area z = verdict-passed (checks ev e area) 0 (checks-rise ev e 
 -- ---- what a passed test says
 
 -- neither
-or-neither : (a b : Bool) → (a || b) ≡ false → (a ≡ false) × (b ≡ false)
+pub or-neither : (a b : Bool) → (a || b) ≡ false → (a ≡ false) × (b ≡ false)
 or-neither true b e = clash {b = true} refl e
 or-neither false b e = (refl, e)
 

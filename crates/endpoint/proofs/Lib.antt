@@ -12,3 +12,4 @@ pub mod Planning
 pub mod Agreed
 pub mod Receiving
 pub mod Batching
+pub mod Sent

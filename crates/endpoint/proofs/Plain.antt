@@ -166,7 +166,7 @@ synced-kept e q m w p l n o a =
     (λ z. absurd (n (sym z)))
 
 -- the own cut fits the current set: a member's run is at most 128
-ownCut-ok : (e : EndPoint) → cutOk (e .current .set) (ownCut e) ≡ true
+pub ownCut-ok : (e : EndPoint) → cutOk (e .current .set) (ownCut e) ≡ true
 unfolding cutOk ownCut
 ownCut-ok e =
     all-of (λ n. countFits (has (e .current .set) n) (getD (ownCut e .counts) n 0)) 8

@@ -36,11 +36,15 @@ messageOf fs =
     }
 
 -- no number is too large for its field: 8 bits for kind, sets, sender, index and counts, 32 for ids and numbers, 64 for the word
+-- eight fields from this one on are below a bound
+abbrev pub narrowRow : List ℕ → ℕ → ℕ → Bool
+narrowRow fs at top = allBelow (λ n. ltb (getD fs (at + n) 0) top) 8
+
 unfoldable pub narrowStarts : List ℕ → Bool
-narrowStarts fs = allBelow (λ n. ltb (getD fs (8 + n) 0) (2 ^ 32)) 8
+narrowStarts fs = narrowRow fs 8 (2 ^ 32)
 
 unfoldable pub narrowCounts : List ℕ → Bool
-narrowCounts fs = allBelow (λ n. ltb (getD fs (16 + n) 0) 256) 8
+narrowCounts fs = narrowRow fs 16 256
 
 unfoldable pub narrowBytes : List ℕ → Bool
 narrowBytes fs = ltb (getD fs 0 0) 256 && (ltb (getD fs 2 0) 256 && (ltb (getD fs 3 0) 256 && (ltb (getD fs 4 0) 256 && ltb (getD fs 7 0) 256)))

@@ -2,7 +2,7 @@
 ghost use mathlib.Core.Path.{_≡_};
 ghost use Prim.Native.Nat.{_+_, _≤_};
 ghost use lib.ListN.{length};
-ghost use Rattle.messages.specs.Fields.{narrowStarts, narrowCounts};
+ghost use Rattle.messages.specs.Fields.{narrowRow};
 ghost use Rattle.messages.specs.Fits.{belowOrZero, numbersFit, zeroRow, cutFieldsFit, viewFieldsFit};
 use crate::formed::has_number;
 use crate::formed::has_view;
@@ -42,14 +42,15 @@ fn zero_row(fields: &[u64], at: usize) -> bool
     ok
 }
 
-fn narrow_counts(fields: &[u64]) -> bool
-    requires { ⌜ length (now fields) ≡ 24 ⌝ }
-    ensures { λ r. ⌜ r ≡ narrowCounts (now (fields .entry)) ⌝ }
+// Eight fields from this one on are below a bound.
+fn narrow_row(fields: &[u64], at: usize, top: u64) -> bool
+    requires { ⌜ (length (now fields) ≡ 24) × (at ≤ 16) ⌝ }
+    ensures { λ r. ⌜ r ≡ narrowRow (now (fields .entry)) at top ⌝ }
 {
     let mut ok = true;
     let mut n: usize = 0;
     while n < 8 {
-        let f = fields[16 + n] < 256;
+        let f = fields[at + n] < top;
         ok = ok & f;
         n += 1;
     }
@@ -61,7 +62,7 @@ pub(crate) fn cut_fits(fields: &[u64], kind: u8) -> bool
     ensures { λ r. ⌜ r ≡ cutFieldsFit (now (fields .entry)) kind ⌝ }
 {
     if kind == 3 {
-        if !narrow_counts(fields) {
+        if !narrow_row(fields, 16, 256) {
             return false;
         }
         cut_of(fields).well_formed((fields[7] % 256) as u8)
@@ -70,26 +71,12 @@ pub(crate) fn cut_fits(fields: &[u64], kind: u8) -> bool
     }
 }
 
-fn narrow_starts(fields: &[u64]) -> bool
-    requires { ⌜ length (now fields) ≡ 24 ⌝ }
-    ensures { λ r. ⌜ r ≡ narrowStarts (now (fields .entry)) ⌝ }
-{
-    let mut ok = true;
-    let mut n: usize = 0;
-    while n < 8 {
-        let f = fields[8 + n] < 4294967296;
-        ok = ok & f;
-        n += 1;
-    }
-    ok
-}
-
 pub(crate) fn view_fits(fields: &[u64], kind: u8) -> bool
     requires { ⌜ length (now fields) ≡ 24 ⌝ }
     ensures { λ r. ⌜ r ≡ viewFieldsFit (now (fields .entry)) kind ⌝ }
 {
     if has_view(kind) {
-        let starts = narrow_starts(fields);
+        let starts = narrow_row(fields, 8, 4294967296);
         let narrow = (fields[6] < 4294967296) & ((fields[7] < 256) & starts);
         if !narrow {
             return false;

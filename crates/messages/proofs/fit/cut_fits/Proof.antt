@@ -7,15 +7,16 @@ use borrow.Author.Needs.{needs}
 use Rattle.messages.proofs.fit.cut_fits.Statement.{statement}
 use Rattle.messages.proofs.fit.cut_fits.Tie as tie
 
-narrow-counts-requires : tie.Need-narrow-counts-requires
-narrow-counts-requires c κs = search needs
+narrow-row-requires : tie.Need-narrow-row-requires
+narrow-row-requires c κs = search needs
 
 returns : tie.Need-returns
-unfolding cutFieldsFit
+unfolding cutFieldsFit narrowCounts
 returns c = search (needs, picks)
 
 cut-of-requires : tie.Need-cut-of-requires
-cut-of-requires c κs = (c .before .before .before .before .pre, told-so _ _ (c .if2 .left) (c .before .narrow-counts .ensures))
+unfolding narrowCounts
+cut-of-requires c κs = (c .before .before .before .before .pre, told-so _ _ (c .if2 .left) (c .before .narrow-row .ensures))
 
 shared-slice-read-well-formed : tie.Need-shared-slice-read-well-formed
 shared-slice-read-well-formed c = search needs
@@ -30,8 +31,8 @@ zero-row-requires : tie.Need-zero-row-requires
 zero-row-requires c κs = search needs
 
 returns-2 : tie.Need-returns-2
-unfolding cutFieldsFit
-returns-2 c = rw (eq-eqb (c .before .before .before .before .before .before .before .args .kind) 3 (c .before .before .before .before .before .if1 .taken), told-so (c .before .before .before .before .narrow-counts .result) (narrowCounts (c .before .before .before .before .before .before .before .args .fields .now)) (c .before .before .before .if2 .left) (c .before .before .before .before .narrow-counts .ensures), ← c .before .before .cut-of .ensures) (c .well-formed .ensures)
+unfolding cutFieldsFit narrowCounts
+returns-2 c = rw (eq-eqb (c .before .before .before .before .before .before .before .args .kind) 3 (c .before .before .before .before .before .if1 .taken), told-so (c .before .before .before .before .narrow-row .result) (narrowCounts (c .before .before .before .before .before .before .before .args .fields .now)) (c .before .before .before .if2 .left) (c .before .before .before .before .narrow-row .ensures), ← c .before .before .cut-of .ensures) (c .well-formed .ensures)
 
 returns-3 : tie.Need-returns-3
 unfolding cutFieldsFit
@@ -41,7 +42,7 @@ pub cut-fits-spec : {M : Type 1} → statement M
 cut-fits-spec =
     tie.close
     (tie.spec
-    narrow-counts-requires
+    narrow-row-requires
     returns
     cut-of-requires
     shared-slice-read-well-formed

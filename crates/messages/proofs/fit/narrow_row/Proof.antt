@@ -1,4 +1,4 @@
--- `fit::narrow_counts` meets its contract: `ok` says all numbers passed. Assumes nothing.
+-- `fit::narrow_row` meets its contract: `ok` says all numbers passed. Assumes nothing.
 use borrow.Author.Needs.{needs}
 use Rattle.below.proofs.All.{alls}
 use Rattle.below.specs.Below.{allBelow}
@@ -6,15 +6,14 @@ use mathlib.Core.Path.{_≡_}
 use Prim.Native.Nat.{_≤_, _-_, _+_}
 use lib.ListN.{getD}
 use lib.Dec.{ltb}
-use Rattle.messages.specs.Fields.{narrowCounts}
-use Rattle.messages.proofs.fit.narrow_counts.Statement.{statement}
-use Rattle.messages.proofs.fit.narrow_counts.Tie as tie
+use Rattle.messages.proofs.fit.narrow_row.Statement.{statement}
+use Rattle.messages.proofs.fit.narrow_row.Tie as tie
 
 abbrev Inv-loop : tie.InvT-loop
-Inv-loop fields ok₀ n₀ ok n = (n ≤ 8) × (ok ≡ allBelow (λ k. ltb (getD fields (16 + k) 0) 256) n)
+Inv-loop fields at top ok₀ n₀ ok n = (n ≤ 8) × (ok ≡ allBelow (λ k. ltb (getD fields (at + k) 0) top) n)
 
 abbrev μ-loop : tie.MeasureT-loop
-μ-loop fields ok₀ n₀ ok n = 8 - n
+μ-loop fields at top ok₀ n₀ ok n = 8 - n
 
 loop-holds : tie.Need-loop-holds Inv-loop μ-loop
 loop-holds c = search (needs, alls)
@@ -38,11 +37,10 @@ loop-again : tie.Need-loop-again Inv-loop μ-loop
 loop-again c = search (needs, alls)
 
 returns : tie.Need-returns Inv-loop μ-loop
-unfolding narrowCounts
 returns c = search (needs, alls)
 
-pub narrow-counts-spec : {M : Type 1} → statement M
-narrow-counts-spec =
+pub narrow-row-spec : {M : Type 1} → statement M
+narrow-row-spec =
     tie.close
     (tie.spec
     Inv-loop
