@@ -33,9 +33,9 @@ use Rattle.endpoint.specs.Ready.{ready, agreed}
 use Rattle.endpoint.specs.Sound.{heardFrom, allOthers, flagsOk, viewsOk, ownMember, countsOk, recordsOk, slotsOk, heardOk, givenOk, sound}
 use Rattle.endpoint.specs.Application.{unfit}
 use Rattle.endpoint.specs.Numbers.{check, verdict, settle, refusedWith}
-use Rattle.endpoint.specs.Give.{Given, nextGiven, limit, nothingNext, beyondCut, giveChecks, givesNext, giveOne, giveMany, batchNumber, batch, batchArea, batchAnswer, batchChecks, capped, lastGiven, wordsAfter}
-use Rattle.endpoint.proofs.Parts.{parts-of, sound-of}
-use Rattle.endpoint.specs.Pass.{Planned}
+use Rattle.endpoint.specs.Give.{Given, nextGiven, limit, nothingNext, beyondCut, giveChecks, givesNext, giveOne, giveMany, batchNumber, batch, batchArea, batchAnswer}
+use Rattle.endpoint.proofs.Parts.{neither, parts-of, sound-of}
+use Rattle.endpoint.specs.Pass.{Planned, batchChecks, capped, lastGiven, wordsAfter}
 use Rattle.endpoint.proofs.Planning.{none-applies, planned-no, given-low}
 
 -- ---- where the give-outs end
@@ -299,10 +299,6 @@ pub record Fit (e : EndPoint) (area : List ℕ) (q : ℕ) : Type 0 where
   pub low : q < 8
   pub here : has (e .current .set) q ≡ true
   pub slot-low : slotOf (e .slots) (e .current) < 4
-
-neither : (a b : Bool) → (a || b) ≡ false → (a ≡ false) × (b ≡ false)
-neither true b e = clash {b = true} refl e
-neither false b e = (refl, e)
 
 pub fit-batch : (e : EndPoint) (area : List ℕ) (q : ℕ) → verdict (batchChecks e area q) ≡ 0 → Fit e area q
 unfolding batchChecks unfit slotsOk

@@ -38,7 +38,7 @@ use Rattle.endpoint.specs.Steps.{Event, send, blockOk, startChange, memb
 use Rattle.endpoint.proofs.Verdicts.{Rising, checks-rise, step-number, refused-keeps, accepted-effect}
 use Rattle.endpoint.proofs.Spending.{spent-start, spent-install}
 use Rattle.endpoint.proofs.Start.{fresh-sound, fresh-shaped}
-use Rattle.endpoint.proofs.Parts.{Parts, Shaped, parts-of, sound-of}
+use Rattle.endpoint.proofs.Parts.{neither, Parts, Shaped, parts-of, sound-of}
 use Rattle.endpoint.proofs.Storing.{send-kept, word-kept, forward-kept, view-kept}
 use Rattle.endpoint.proofs.Changing.{start-kept, membership-kept, install-kept}
 use Rattle.endpoint.proofs.Plain.{blockOk-kept, ask-kept, declare-kept, announce-kept, pass-kept, synced-kept, sync-kept, forwarded-kept, given-kept}
@@ -63,15 +63,10 @@ step-passed ev e area z = verdict-passed (checks ev e area) 0 (checks-rise ev e 
 
 -- ---- what a passed test says
 
--- neither
-pub or-neither : (a b : Bool) → (a || b) ≡ false → (a ≡ false) × (b ≡ false)
-or-neither true b e = clash {b = true} refl e
-or-neither false b e = (refl, e)
-
 -- not unfit: sound
 unfit-not : (e : EndPoint) (area : List ℕ) → unfit e area ≡ false → sound e ≡ true
 unfolding unfit
-unfit-not e area u = is-not (sound e) (or-neither (not (sound e)) (not (eqb (length area) 4096)) u .0)
+unfit-not e area u = is-not (sound e) (neither (not (sound e)) (not (eqb (length area) 4096)) u .0)
 
 -- a false equation of numbers
 differ : (a b : ℕ) → eqb a b ≡ false → a ≡ b → ⊥
@@ -87,10 +82,10 @@ record Received (e : EndPoint) (area : List ℕ) (q : ℕ) (m : Message) : Type 
 received : (e : EndPoint) (area : List ℕ) (q : ℕ) (m : Message) → unreceivable e area q m ≡ false → Received e area q m
 unfolding unreceivable
 received e area q m u =
-    let a = or-neither (unfit e area) (not (leb q 7) || (eqb q (e .me) || (not (wellFormed m) || not (leb (m .kind) 4)))) u in
-    let b = or-neither (not (leb q 7)) (eqb q (e .me) || (not (wellFormed m) || not (leb (m .kind) 4))) (a .1) in
-    let c = or-neither (eqb q (e .me)) (not (wellFormed m) || not (leb (m .kind) 4)) (b .1) in
-    let d = or-neither (not (wellFormed m)) (not (leb (m .kind) 4)) (c .1) in
+    let a = neither (unfit e area) (not (leb q 7) || (eqb q (e .me) || (not (wellFormed m) || not (leb (m .kind) 4)))) u in
+    let b = neither (not (leb q 7)) (eqb q (e .me) || (not (wellFormed m) || not (leb (m .kind) 4))) (a .1) in
+    let c = neither (eqb q (e .me)) (not (wellFormed m) || not (leb (m .kind) 4)) (b .1) in
+    let d = neither (not (wellFormed m)) (not (leb (m .kind) 4)) (c .1) in
     record { q-low = omega (arith, leb-true q 7 (is-not (leb q 7) (b .0))); q-other = differ q (e .me) (c .0); well = is-not (wellFormed m) (d .0) }
 
 -- of two that are not both, where the first holds the second does not
@@ -136,7 +131,7 @@ effect-kept (send n) e area w p c = send-kept e w p (differ (ownRun e) 128 (c .1
 effect-kept blockOk e area w p c = blockOk-kept e w p
 effect-kept (startChange n s) e area w p c = start-kept e n s w p (ltb-true (e .change .number) n (is-not (ltb (e .change .number) n) (c .1 .1 .0)))
 effect-kept (membershipView v) e area w p c =
-    membership-kept e v w p (is-not (viewOk v) (or-neither (not (sound e)) (not (viewOk v)) (c .0) .1)) (is-not (has (v .set) (e .me)) (c .1 .0))
+    membership-kept e v w p (is-not (viewOk v) (neither (not (sound e)) (not (viewOk v)) (c .0) .1)) (is-not (has (v .set) (e .me)) (c .1 .0))
 effect-kept (receive q m) e area w p c = receive-kept e area q m w p c
 effect-kept askToBlock e area w p c = ask-kept e w p
 effect-kept declare e area w p c = declare-kept e w p
@@ -147,14 +142,14 @@ effect-kept sync e area w p c =
     sync-kept e w p
     (not-is h (and-right (isBlocked e) (not h) (and-right (isPending e) (isBlocked e && not h) (is-not (isPending e && (isBlocked e && not h)) (c .1 .0)))))
 effect-kept (forward q r) e area w p c =
-    let u = or-neither (unfit e area) (not (leb q 7) || not (leb r 7)) (c .0) .1 in
-    let v = or-neither (not (leb q 7)) (not (leb r 7)) u in
+    let u = neither (unfit e area) (not (leb q 7) || not (leb r 7)) (c .0) .1 in
+    let v = neither (not (leb q 7)) (not (leb r 7)) u in
     forwarded-kept e area q r w p (omega (arith, leb-true q 7 (is-not (leb q 7) (v .0)))) (omega (arith, leb-true r 7 (is-not (leb r 7) (v .1))))
     (ltb-true (lowestDue e q r) 128 (is-not (ltb (lowestDue e q r) 128) (c .1 .1 .1 .0)))
 effect-kept (giveOut q) e area w p c =
     let h = heldWord (e .slots) (e .current) q (nextGiven e q) in
-    given-kept e area q w p (omega (arith, leb-true q 7 (is-not (leb q 7) (or-neither (unfit e area) (not (leb q 7)) (c .0) .1))))
-    (is-not h (or-neither (not h) (eqb q (e .me) && ltb (e .passed) (nextGiven e q)) (c .1 .1 .0) .0))
+    given-kept e area q w p (omega (arith, leb-true q 7 (is-not (leb q 7) (neither (unfit e area) (not (leb q 7)) (c .0) .1))))
+    (is-not h (neither (not h) (eqb q (e .me) && ltb (e .passed) (nextGiven e q)) (c .1 .1 .0) .0))
 effect-kept install e area w p c = install-kept e w p (is-not (ready e) (c .1 .0))
 
 -- the step, refused or accepted, leaves a sound end-point of the code's types

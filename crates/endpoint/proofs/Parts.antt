@@ -17,6 +17,12 @@ use Rattle.endpoint.specs.declared.EndPoint.{EndPoint}
 use Rattle.agreement.specs.Due.{noMarks}
 use Rattle.endpoint.specs.Sound.{allOthers, flagsOk, viewsOk, ownMember, countsOk, recordsOk, slotsOk, heardOk, givenOk, sound}
 
+-- ---- of two that are not either, neither is
+
+pub neither : (a b : Bool) → (a || b) ≡ false → (a ≡ false) × (b ≡ false)
+neither true b e = clash {b = true} refl e
+neither false b e = (refl, e)
+
 -- ---- the clauses
 
 pub record Parts (e : EndPoint) : Type 0 where

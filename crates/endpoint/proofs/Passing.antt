@@ -29,7 +29,7 @@ use Rattle.endpoint.specs.declared.EndPoint.{EndPoint}
 use Rattle.endpoint.specs.State.{isPending}
 use Rattle.endpoint.specs.Spent.{spent}
 use Rattle.endpoint.specs.Sound.{heardFrom, allOthers, flagsOk, viewsOk, ownMember, countsOk, recordsOk, slotsOk, heardOk, givenOk, sound}
-use Rattle.endpoint.specs.Pass.{flagsFit, wordsFit, othersSound, viewsSound}
+use Rattle.endpoint.specs.Pass.{flagsFit, wordsFit, viewsSound}
 use Rattle.endpoint.proofs.Parts.{Parts, parts-of, sound-of, others-each, others-of}
 
 -- ---- `&&` taken apart
@@ -90,7 +90,7 @@ module _ (e : EndPoint) where
   unfolding spent
   slotted-is = fit-parts (e .me) (e .current) (e .change .number) (isPending e) (e .slots)
 
-  words-is : wordsFit e ≡ (slotsFit (e .me) (e .current) (e .change .number) (isPending e) (e .slots) && (hasSlot (e .slots) (e .current) && (given && passed)))
+  words-is : wordsFit (e .me) (e .current) (e .change .number) (isPending e) (e .slots) (e .given) (e .passed) ≡ (slotsFit (e .me) (e .current) (e .change .number) (isPending e) (e .slots) && (hasSlot (e .slots) (e .current) && (given && passed)))
   unfolding wordsFit hasSlot slotIn slotOf Slots.isFor Slots.used Slots.tagAt givenFit run marksAt
   words-is = refl
 
@@ -118,7 +118,10 @@ module _ (e : EndPoint) where
   abbrev there : Bool
   there = has (e .membership .set) (e .me)
 
-  pass-parts : viewsSound e ≡ true → allOthers e fits ≡ true → recordsFit (e .records) (e .me) (e .change .number) ≡ true → marked ≡ true
+  abbrev viewed : Bool
+  viewed = viewsSound (e .me) (e .change) (e .told) (e .current) (e .membership)
+
+  pass-parts : viewed ≡ true → allOthers e fits ≡ true → recordsFit (e .records) (e .me) (e .change .number) ≡ true → marked ≡ true
       → (slotted && (hasSlot (e .slots) (e .current) && (given && passed))) ≡ true → Parts e
   unfolding viewsSound flagsOk viewsOk ownMember countsOk recordsOk slotsOk heardOk givenOk
   pass-parts v o r m w =
@@ -138,7 +141,7 @@ module _ (e : EndPoint) where
         given = and-both (ws .1 .1 .0) (ws .1 .1 .1);
       }
 
-  parts-pass : Parts e → (viewsSound e && ((allOthers e fits && (recordsFit (e .records) (e .me) (e .change .number) && marked)) && (slotted && (hasSlot (e .slots) (e .current) && (given && passed))))) ≡ true
+  parts-pass : Parts e → (viewed && ((allOthers e fits && (recordsFit (e .records) (e .me) (e .change .number) && marked)) && (slotted && (hasSlot (e .slots) (e .current) && (given && passed))))) ≡ true
   unfolding viewsSound flagsOk viewsOk ownMember countsOk recordsOk slotsOk heardOk givenOk
   parts-pass p =
       let fs = five (leb (e .change .opened) 1) (leb (e .change .pending) 1) (leb (e .change .block) 2) (leb (e .told) 1) flagged (p .flags) in
@@ -153,12 +156,14 @@ module _ (e : EndPoint) where
       (and-both (p .records) (cs .1 .1 .1)))
       (and-both (and-both (fs .1 .1 .1 .1) (and-both (vs .1 .1 .1) (and-both (ss .1 .1 .0) (and-both (ss .0) (ss .1 .0))))) (and-both (ss .1 .1 .1) (and-both (gs .0) (gs .1)))))
 
-  pub pass-sound : (viewsSound e && (othersSound e && wordsFit e)) ≡ sound e
-  unfolding othersSound
+  pub pass-sound : (viewsSound (e .me) (e .change) (e .told) (e .current) (e .membership)
+      && ((othersFit (e .me) (e .current) (e .change .number) (isPending e) (e .slots .tags) (e .heard) (e .received)
+      && (recordsFit (e .records) (e .me) (e .change .number) && rowsFit (e .forwarded)))
+      && wordsFit (e .me) (e .current) (e .change .number) (isPending e) (e .slots) (e .given) (e .passed))) ≡ sound e
   pass-sound =
       rw (others-is, marked-is, words-is, slotted-is)
-      (both (viewsSound e && ((allOthers e fits && (recordsFit (e .records) (e .me) (e .change .number) && marked)) && (slotted && (hasSlot (e .slots) (e .current) && (given && passed))))) (sound e)
-      (λ t. let a = three (viewsSound e) (allOthers e fits && (recordsFit (e .records) (e .me) (e .change .number) && marked)) (slotted && (hasSlot (e .slots) (e .current) && (given && passed))) t in
+      (both (viewed && ((allOthers e fits && (recordsFit (e .records) (e .me) (e .change .number) && marked)) && (slotted && (hasSlot (e .slots) (e .current) && (given && passed))))) (sound e)
+      (λ t. let a = three (viewed) (allOthers e fits && (recordsFit (e .records) (e .me) (e .change .number) && marked)) (slotted && (hasSlot (e .slots) (e .current) && (given && passed))) t in
       let b = three (allOthers e fits) (recordsFit (e .records) (e .me) (e .change .number)) marked (a .1 .0) in
       sound-of e (pass-parts (a .0) (b .0) (b .1 .0) (b .1 .1) (a .1 .1)))
       (λ t. parts-pass (parts-of e t)))

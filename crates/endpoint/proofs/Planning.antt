@@ -92,6 +92,11 @@ fit-of e area t = go (sound e) (eqb (length area) 4096) refl refl t
     go true false p q z = clash refl z
     go false b p q z = clash refl z
 
+-- what the code asks first, of an end-point whose soundness it was told
+pub unfit-is : (e : EndPoint) (area : List ℕ) (ok b : Bool) → ok ≡ sound e → b ≡ (not ok || not (eqb (length area) 4096)) → b ≡ unfit e area
+unfolding unfit
+unfit-is e area ok b p q = q ∙ ap (λ x. not x || not (eqb (length area) 4096)) p
+
 module _ (e : EndPoint) (s : sound e ≡ true) where
   pub me-low : e .me < 8
   me-low = omega (arith, parts-of e s .low)

@@ -40,7 +40,7 @@ use Rattle.endpoint.specs.Application.{unfit}
 use Rattle.endpoint.specs.Receive.{unreceivable, otherWord, storeWord, storeArea, needsSlot, viewChecks, afterView, nextWord, live, wordChecks, afterWord, areaAfterWord, syncChecks, carried, afterSync, forwardChecks, afterForward, areaAfterForward, byKind, receiveChecks, afterReceive, areaAfterReceive}
 use Rattle.endpoint.specs.Pass.{Receivable, viewPlan, wordPlan, forwardPlan}
 use Rattle.endpoint.specs.Steps.{receive, checks, effect, stored, step, areaAfter}
-use Rattle.endpoint.proofs.Parts.{parts-of, others-each}
+use Rattle.endpoint.proofs.Parts.{neither, parts-of, others-each}
 use Rattle.endpoint.proofs.Planning.{first-applies, first-not, none-applies, slot-is, held-is, fit-of, current-slot}
 use Rattle.endpoint.proofs.Settling.{refuse, accept, keep, store}
 
@@ -54,10 +54,6 @@ module _ (cs : List Check) (e y : EndPoint) (area next : List ℕ) (n : ℕ) (k 
   both-done l z t s = (t ∙ accept cs e (accepted y) (sym k ∙ z), s ∙ store cs area next (sym k ∙ z))
 
 -- ---- what soundness says
-
-neither : (a b : Bool) → (a || b) ≡ false → (a ≡ false) × (b ≡ false)
-neither true b e = clash {b = true} refl e
-neither false b e = (refl, e)
 
 -- ---- a message that passed the first check
 
@@ -205,18 +201,18 @@ module _ (e : EndPoint) (area : List ℕ) (q w : ℕ) where
         omega (arith, t .whole)
 
     module _ (r : Answer) where
-      pub word-refused : (p .number ≡ 0 → ⊥) → r ≡ refusedWith (p .number) e
+      word-refused : (p .number ≡ 0 → ⊥) → r ≡ refusedWith (p .number) e
           → (r ≡ settle (wordChecks e area q w) e (accepted (afterWord e q))) × (area ≡ settleArea (wordChecks e area q w) area (areaAfterWord e area q w))
       word-refused z t = both-refused (wordChecks e area q w) e (afterWord e q) area (areaAfterWord e area q w) (p .number) number r z t
 
-      pub word-spent : p .number ≡ 0 → not (p .stored) ≡ true → r ≡ refusedWith 0 e
+      word-spent : p .number ≡ 0 → not (p .stored) ≡ true → r ≡ refusedWith 0 e
           → (r ≡ settle (wordChecks e area q w) e (accepted (afterWord e q))) × (area ≡ settleArea (wordChecks e area q w) area (areaAfterWord e area q w))
       unfolding afterWord areaAfterWord
       word-spent z c t =
           let b : live e q ≡ false = sym (ap (λ (x : WordPlan). x .stored) k) ∙ not-is (p .stored) c in
           both-done (wordChecks e area q w) e (afterWord e q) area (areaAfterWord e area q w) (p .number) number r area z (rw b t) (rw b)
 
-      pub word-stored : p .number ≡ 0 → not (p .stored) ≡ false → (at : ℕ) (ss : Slots) → at ≡ place (p .slot) q (p .index)
+      word-stored : p .number ≡ 0 → not (p .stored) ≡ false → (at : ℕ) (ss : Slots) → at ≡ place (p .slot) q (p .index)
           → ss ≡ markIn (e .slots) (p .slot) q (p .index) → r ≡ accepted (withHeard (e .heard) (set (e .received) q (p .index)) (withSlots ss e))
           → (r ≡ settle (wordChecks e area q w) e (accepted (afterWord e q))) × (set area at w ≡ settleArea (wordChecks e area q w) area (areaAfterWord e area q w))
       unfolding afterWord areaAfterWord storeWord storeArea
@@ -225,6 +221,33 @@ module _ (e : EndPoint) (area : List ℕ) (q w : ℕ) where
           both-done (wordChecks e area q w) e (afterWord e q) area (areaAfterWord e area q w) (p .number) number r (set area at w) z
           (rw (b, mark-in (e .slots) (heardFrom e q) q (nextWord e q)) (t ∙ rw (h, k)))
           (rw (b, g, k))
+
+      -- the two ways on from the plan: x and y are the end-point and the area after them
+      module _ (x : EndPoint) (y : List ℕ) (u : r ≡ refusedWith (p .number) x) where
+        pub word-done : (eqb (p .number) 0 && p .stored) ≡ true → (at : ℕ) (ss : Slots) → at ≡ place (p .slot) q (p .index)
+            → ss ≡ markIn (e .slots) (p .slot) q (p .index) → x ≡ withHeard (e .heard) (set (e .received) q (p .index)) (withSlots ss e) → y ≡ set area at w
+            → (r ≡ settle (wordChecks e area q w) e (accepted (afterWord e q))) × (y ≡ settleArea (wordChecks e area q w) area (areaAfterWord e area q w))
+        word-done t at ss g h i j =
+            let z = eqb-true (p .number) 0 (and-left (eqb (p .number) 0) (p .stored) t) in
+            let o = word-stored z (ap not (and-right (eqb (p .number) 0) (p .stored) t)) at ss g h (u ∙ ap (λ n. refusedWith n x) z ∙ ap accepted i) in
+            (o .0, j ∙ o .1)
+
+        pub word-kept : (eqb (p .number) 0 && p .stored) ≡ false → x ≡ e → y ≡ area
+            → (r ≡ settle (wordChecks e area q w) e (accepted (afterWord e q))) × (y ≡ settleArea (wordChecks e area q w) area (areaAfterWord e area q w))
+        word-kept t i j = go (eqb (p .number) 0) refl t
+          where
+            v : r ≡ refusedWith (p .number) e
+            v = u ∙ ap (refusedWith (p .number)) i
+
+            go : (b : Bool) → eqb (p .number) 0 ≡ b → (b && p .stored) ≡ false
+                → (r ≡ settle (wordChecks e area q w) e (accepted (afterWord e q))) × (y ≡ settleArea (wordChecks e area q w) area (areaAfterWord e area q w))
+            go true f g =
+                let z = eqb-true (p .number) 0 f in
+                let o = word-spent z (ap not g) (v ∙ ap (λ n. refusedWith n e) z) in
+                (o .0, j ∙ o .1)
+            go false f g =
+                let o = word-refused (eqb-false (p .number) 0 f) v in
+                (o .0, j ∙ o .1)
 
 -- ---- a sync
 

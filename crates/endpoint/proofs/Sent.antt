@@ -1,6 +1,6 @@
 -- Every message that a step sends is well formed, so writing it is accepted and what arrives reads back as it was sent (messages: `reads-back`).
 -- A step that sends nothing gives a message of no kind. Assumes nothing.
-use Prim.Native.Nat.{ℕ, _+_, _≤_, _<_}
+use Prim.Native.Nat.{ℕ, _≤_, _<_}
 use native.Mathlib.Omega.{arith}
 use mathlib.Core.Bool.{Bool, true, false, not, _&&_, _||_}
 use mathlib.Core.List.{List}
@@ -28,9 +28,9 @@ use Rattle.endpoint.specs.Forward.{dueIndex, forwardOutChecks, forwards}
 use Rattle.endpoint.specs.Give.{givesNext}
 use Rattle.endpoint.specs.Steps.{Event, send, blockOk, startChange, membershipView, receive, askToBlock, declare, announce, passOut, sync, forward, giveOut, install, checks, effect, step}
 use Rattle.endpoint.proofs.Verdicts.{accepted-effect, step-number}
-use Rattle.endpoint.proofs.Parts.{Parts, parts-of}
+use Rattle.endpoint.proofs.Parts.{neither, parts-of}
 use Rattle.endpoint.proofs.Plain.{ownCut-ok}
-use Rattle.endpoint.proofs.Kept.{Passed, step-passed, or-neither}
+use Rattle.endpoint.proofs.Kept.{Passed, step-passed}
 
 -- ---- a message of each kind that steps send, from its parts
 
@@ -75,11 +75,11 @@ effect-formed announce e area c h = view-formed (e .current) (current-formed e (
 effect-formed passOut e area c h = word-formed _
 effect-formed sync e area c h = sync-formed (e .change .number) (e .current) (ownCut e) (current-formed e (c .0)) (ownCut-ok e)
 effect-formed (forward q r) e area c h =
-    let a = or-neither (unfit e area) (not (leb q 7) || not (leb r 7)) (c .0) in
-    let b = or-neither (not (leb q 7)) (not (leb r 7)) (a .1) in
+    let a = neither (unfit e area) (not (leb q 7) || not (leb r 7)) (c .0) in
+    let b = neither (not (leb q 7)) (not (leb r 7)) (a .1) in
     let d : lowestDue e q r < 128 = ltb-true (lowestDue e q r) 128 (is-not (ltb (lowestDue e q r) 128) (c .1 .1 .1 .0)) in
     forward-formed r (dueIndex e q r) (e .current) _ (leb-true r 7 (is-not (leb r 7) (b .1))) (omega arith) (omega (arith, d))
-    (current-formed e (or-neither (not (sound e)) _ (a .0) .0))
+    (current-formed e (neither (not (sound e)) _ (a .0) .0))
 effect-formed (giveOut q) e area c h = absurd (h refl)
 effect-formed install e area c h = absurd (h refl)
 

@@ -1,14 +1,13 @@
 -- "Give out from q", and the batch, which is so many single give-outs. Assumes nothing.
-use Prim.Native.Nat.{ℕ, zero, suc, _+_, min}
+use Prim.Native.Nat.{ℕ, zero, suc, _+_}
 use mathlib.Core.Bool.{Bool, true, false, not, cond, _||_, _&&_}
 use mathlib.Core.List.{List, [], _∷_, _++_}
 use lib.Dec.{eqb, ltb, leb}
 use lib.ListN.{length, getD, set, drop}
-use Rattle.below.specs.Below.{listBelow}
 use Rattle.views.specs.Sets.{has}
 use Rattle.views.specs.Cuts.{countOf}
 use Rattle.records.specs.Records.{holdsRecord, theRecord}
-use Rattle.slots.specs.Slots.{place, slotOf, heldWord, run}
+use Rattle.slots.specs.Slots.{place, slotOf, heldWord}
 use Rattle.endpoint.specs.declared.EndPoint.{EndPoint}
 use Rattle.endpoint.specs.declared.Answer.{Answer}
 use Rattle.endpoint.specs.declared.Batch.{Batch}
@@ -83,23 +82,3 @@ batchArea e area q out = batch e area q (length out) .words ++ drop (length (bat
 -- "It reports the count of single give-outs that it equals"
 abbrev pub batchAnswer : EndPoint → List ℕ → ℕ → ℕ → Batch
 batchAnswer e area q room = record { ep = batch e area q room .ep; count = length (batch e area q room .words); number = batchNumber e area q }
-
--- ---- the batch in one pass: that it is so many single give-outs is shown in proofs/Batching
-
--- what refuses it
-unfoldable pub batchChecks : EndPoint → List ℕ → ℕ → List Check
-batchChecks e area q = check 1 (unfit e area || not (leb q 7)) ∷ check 2 (not (has (e .current .set) q)) ∷ []
-
--- k, and no more than n where that applies
-abbrev pub capped : ℕ → Bool → ℕ → ℕ
-capped n applies k = cond applies (min k n) k
-
--- the last word of q that may be given out: q's run, no further than what is passed out where q is p, nor than the limit where there is one
-unfoldable pub lastGiven : EndPoint → ℕ → ℕ
-lastGiven e q =
-    capped (limit e q) (isPending e && holdsRecord (e .records) (e .me) (e .change .number))
-    (capped (e .passed) (eqb q (e .me)) (run (e .slots) (e .current) q))
-
--- the n words of q in slot s that follow word i
-unfoldable pub wordsAfter : List ℕ → ℕ → ℕ → ℕ → ℕ → List ℕ
-wordsAfter area s q i n = listBelow (λ j. getD area (place s q (i + j + 1)) 0) n

@@ -1,4 +1,5 @@
 // What a step answers, and its number: the first of its checks that applies.
+// An answer's end-point has its last field written once more: beside a number that is written by itself it is copied apart from the message, and once less.
 ghost use mathlib.Core.Bool.{cond};
 ghost use mathlib.Core.Path.{_≡_};
 ghost use Rattle.endpoint.specs.Numbers.{refusedWith, declares as declaresOf, sends as sendsOf, gives as givesOf, installs as installsOf};
@@ -18,68 +19,78 @@ pub(crate) fn first(n: u8, applies: bool, later: u8) -> u8
 pub(crate) fn plain(ep: EndPoint, number: u8) -> Answer
     ensures { λ r. ⌜ r ≡ refusedWith number ep ⌝ }
 {
-    Answer {
+    let mut a = Answer {
         ep,
         message: Message::blank(0),
         view: View::none(),
         word: 0,
         number,
         set: 0,
-    }
+    };
+    a.ep.passed = ep.passed;
+    a
 }
 
 // Accepted, with a message to a set.
 pub(crate) fn sends(ep: EndPoint, set: u8, message: Message) -> Answer
     ensures { λ r. ⌜ r ≡ sendsOf ep set message ⌝ }
 {
-    Answer {
+    let mut a = Answer {
         ep,
         message,
         view: View::none(),
         word: 0,
         number: 0,
         set,
-    }
+    };
+    a.ep.passed = ep.passed;
+    a
 }
 
 // Accepted, with a set.
 pub(crate) fn declares(ep: EndPoint, set: u8) -> Answer
     ensures { λ r. ⌜ r ≡ declaresOf ep set ⌝ }
 {
-    Answer {
+    let mut a = Answer {
         ep,
         message: Message::blank(0),
         view: View::none(),
         word: 0,
         number: 0,
         set,
-    }
+    };
+    a.ep.passed = ep.passed;
+    a
 }
 
 // Accepted, with a word.
 pub(crate) fn gives(ep: EndPoint, word: u64) -> Answer
     ensures { λ r. ⌜ r ≡ givesOf ep word ⌝ }
 {
-    Answer {
+    let mut a = Answer {
         ep,
         message: Message::blank(0),
         view: View::none(),
         word,
         number: 0,
         set: 0,
-    }
+    };
+    a.ep.passed = ep.passed;
+    a
 }
 
 // Accepted, with a view and T.
 pub(crate) fn installs(ep: EndPoint, view: View, set: u8) -> Answer
     ensures { λ r. ⌜ r ≡ installsOf ep view set ⌝ }
 {
-    Answer {
+    let mut a = Answer {
         ep,
         message: Message::blank(0),
         view,
         word: 0,
         number: 0,
         set,
-    }
+    };
+    a.ep.passed = ep.passed;
+    a
 }

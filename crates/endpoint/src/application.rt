@@ -5,6 +5,7 @@ ghost use Prim.Native.Nat.{_+_};
 ghost use Rattle.slots.specs.Slots.{slotOf};
 ghost use Rattle.endpoint.specs.Application.{ownRun, sendChecks};
 ghost use Rattle.endpoint.specs.Pass.{Planned};
+ghost use Rattle.endpoint.specs.Sound.{sound as soundOf};
 ghost use Rattle.endpoint.specs.Steps.{step, areaAfter, send as sendOf, blockOk};
 use crate::Answer;
 use crate::EndPoint;
@@ -13,20 +14,22 @@ use crate::answers;
 use crate::sound;
 
 // Where p's next own word stands.
-fn send_plan(e: EndPoint, area: &[u64]) -> Plan
+fn send_plan(e: EndPoint, ok: bool, area: &[u64]) -> Plan
+    requires { ⌜ ok ≡ soundOf e ⌝ }
     ensures { λ r. ⌜ Planned (sendChecks e (now (area .entry))) (slotOf (e .slots) (e .current)) (ownRun e + 1) r ⌝ }
 {
-    if sound::unfit(e, area) {
+    if sound::unfit(ok, area) {
         return Plan {
             number: 1,
             slot: 0,
             index: 0,
         };
     }
+    let current = e.current;
     let held = e.slots;
     let tags = held.tags;
     let rows = held.marks;
-    let slot = slots::slot_in(tags, e.current);
+    let slot = slots::slot_in(tags, current);
     let run = marks::run_in(slots::marks_in(rows, slot), e.me);
     let full = answers::first(6, run == 128, 0);
     Plan {
@@ -41,7 +44,8 @@ impl EndPoint {
     pub fn send(mut self, area: &mut [u64], w: u64) -> Answer
         ensures { λ r. ⌜ (r ≡ step (sendOf w) self (now (area .entry))) × (now (area .exit) ≡ areaAfter (sendOf w) self (now (area .entry))) ⌝ }
     {
-        let p = send_plan(self, area);
+        let ok = sound::sound(self);
+        let p = send_plan(self, ok, area);
         if p.number != 0 {
             return answers::plain(self, p.number);
         }

@@ -4,8 +4,9 @@ ghost use mathlib.Core.Path.{_≡_};
 ghost use Prim.Native.Nat.{_+_, _-_, _≤_, _<_, min};
 ghost use lib.ListN.{length, drop};
 ghost use Rattle.slots.specs.Slots.{run as runOf, slotOf};
-ghost use Rattle.endpoint.specs.Give.{batchAnswer, batchArea, batchChecks, capped as cappedBy, lastGiven, wordsAfter};
-ghost use Rattle.endpoint.specs.Pass.{Planned};
+ghost use Rattle.endpoint.specs.Give.{batchAnswer, batchArea};
+ghost use Rattle.endpoint.specs.Pass.{Planned, batchChecks, capped as cappedBy, lastGiven, wordsAfter};
+ghost use Rattle.endpoint.specs.Sound.{sound as soundOf};
 use crate::Batch;
 use crate::EndPoint;
 use crate::Plan;
@@ -36,10 +37,11 @@ fn last_given(e: EndPoint, q: u8, run: u8) -> u8
 }
 
 // The slot of q's words, and the last of them that may be given out.
-fn batch_plan(e: EndPoint, area: &[u64], q: u8) -> Plan
+fn batch_plan(e: EndPoint, ok: bool, area: &[u64], q: u8) -> Plan
+    requires { ⌜ ok ≡ soundOf e ⌝ }
     ensures { λ r. ⌜ Planned (batchChecks e (now (area .entry)) q) (slotOf (e .slots) (e .current)) (lastGiven e q) r ⌝ }
 {
-    let unfit = sound::unfit(e, area);
+    let unfit = sound::unfit(ok, area);
     if unfit | !(q <= 7) {
         return Plan {
             number: 1,
@@ -54,10 +56,11 @@ fn batch_plan(e: EndPoint, area: &[u64], q: u8) -> Plan
             index: 0,
         };
     }
+    let current = e.current;
     let held = e.slots;
     let tags = held.tags;
     let rows = held.marks;
-    let slot = slots::slot_in(tags, e.current);
+    let slot = slots::slot_in(tags, current);
     let run = marks::run_in(slots::marks_in(rows, slot), q);
     Plan {
         number: 0,
@@ -100,7 +103,8 @@ impl EndPoint {
     pub fn batch(mut self, area: &[u64], q: u8, out: &mut [u64]) -> Batch
         ensures { λ r. ⌜ (r ≡ batchAnswer self (now (area .entry)) q (length (now (out .entry)))) × (now (out .exit) ≡ batchArea self (now (area .entry)) q (now (out .entry))) ⌝ }
     {
-        let p = batch_plan(self, area, q);
+        let ok = sound::sound(self);
+        let p = batch_plan(self, ok, area, q);
         if p.number != 0 {
             return Batch {
                 ep: self,

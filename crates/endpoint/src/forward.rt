@@ -5,6 +5,7 @@ ghost use Rattle.slots.specs.Slots.{slotOf};
 ghost use Rattle.endpoint.specs.Forward.{forwardOutChecks, dueIndex};
 ghost use Rattle.endpoint.specs.Pass.{Planned};
 ghost use Rattle.endpoint.specs.Ready.{ready as readyOf};
+ghost use Rattle.endpoint.specs.Sound.{sound as soundOf};
 ghost use Rattle.endpoint.specs.Steps.{step, forward as forwardOf};
 use crate::Answer;
 use crate::EndPoint;
@@ -23,10 +24,11 @@ pub(crate) fn ready(e: EndPoint) -> bool
 }
 
 // Where the word to forward stands.
-fn forward_plan(e: EndPoint, area: &[u64], q: u8, r: u8) -> Plan
+fn forward_plan(e: EndPoint, ok: bool, area: &[u64], q: u8, r: u8) -> Plan
+    requires { ⌜ ok ≡ soundOf e ⌝ }
     ensures { λ p. ⌜ Planned (forwardOutChecks e (now (area .entry)) q r) (slotOf (e .slots) (e .current)) (dueIndex e q r) p ⌝ }
 {
-    let unfit = sound::unfit(e, area);
+    let unfit = sound::unfit(ok, area);
     if unfit | (!(q <= 7) | !(r <= 7)) {
         return Plan {
             number: 1,
@@ -34,10 +36,11 @@ fn forward_plan(e: EndPoint, area: &[u64], q: u8, r: u8) -> Plan
             index: 0,
         };
     }
+    let current = e.current;
     let held = e.slots;
     let tags = held.tags;
     let rows = held.marks;
-    let slot = slots::slot_in(tags, e.current);
+    let slot = slots::slot_in(tags, current);
     let m = slots::marks_in(rows, slot);
     let marked = e.forwarded;
     let agreed = agreement::agree(e.current, e.membership, e.records);
@@ -56,7 +59,8 @@ impl EndPoint {
     pub fn forward(mut self, area: &[u64], q: u8, r: u8) -> Answer
         ensures { λ a. ⌜ a ≡ step (forwardOf q r) self (now (area .entry)) ⌝ }
     {
-        let p = forward_plan(self, area, q, r);
+        let ok = sound::sound(self);
+        let p = forward_plan(self, ok, area, q, r);
         if p.number != 0 {
             return answers::plain(self, p.number);
         }

@@ -4,6 +4,7 @@ ghost use Prim.Native.Nat.{_<_};
 ghost use Rattle.slots.specs.Slots.{slotOf};
 ghost use Rattle.endpoint.specs.Give.{limit as limitOf, beyondCut, giveChecks, nextGiven};
 ghost use Rattle.endpoint.specs.Pass.{Planned};
+ghost use Rattle.endpoint.specs.Sound.{sound as soundOf};
 ghost use Rattle.endpoint.specs.Steps.{step, giveOut};
 use crate::Answer;
 use crate::EndPoint;
@@ -41,10 +42,11 @@ fn beyond_cut(e: EndPoint, q: u8, next: u8) -> bool
 }
 
 // Where q's next word to give out stands.
-fn give_plan(e: EndPoint, area: &[u64], q: u8) -> Plan
+fn give_plan(e: EndPoint, ok: bool, area: &[u64], q: u8) -> Plan
+    requires { ⌜ ok ≡ soundOf e ⌝ }
     ensures { λ r. ⌜ Planned (giveChecks e (now (area .entry)) q) (slotOf (e .slots) (e .current)) (nextGiven e q) r ⌝ }
 {
-    let unfit = sound::unfit(e, area);
+    let unfit = sound::unfit(ok, area);
     if unfit | !(q <= 7) {
         return Plan {
             number: 1,
@@ -52,11 +54,13 @@ fn give_plan(e: EndPoint, area: &[u64], q: u8) -> Plan
             index: 0,
         };
     }
+    let current = e.current;
+    let given = e.given;
     let held = e.slots;
     let tags = held.tags;
     let rows = held.marks;
-    let next = e.given[q as usize] + 1;
-    let slot = slots::slot_in(tags, e.current);
+    let next = given[q as usize] + 1;
+    let slot = slots::slot_in(tags, current);
     let here = sets::contains(e.current.set, q);
     let holds = marks::holds(slots::marks_in(rows, slot), q, next);
     let beyond = beyond_cut(e, q, next);
@@ -74,7 +78,8 @@ impl EndPoint {
     pub fn give_out(mut self, area: &[u64], q: u8) -> Answer
         ensures { λ r. ⌜ r ≡ step (giveOut q) self (now (area .entry)) ⌝ }
     {
-        let p = give_plan(self, area, q);
+        let ok = sound::sound(self);
+        let p = give_plan(self, ok, area, q);
         if p.number != 0 {
             return answers::plain(self, p.number);
         }

@@ -4,6 +4,7 @@ ghost use mathlib.Core.Path.{_≡_};
 ghost use Rattle.endpoint.specs.Install.{installChecks, slotsAfter};
 ghost use Rattle.endpoint.specs.Numbers.{verdict};
 ghost use Rattle.endpoint.specs.Pass.{InstallPlanned};
+ghost use Rattle.endpoint.specs.Sound.{sound as soundOf};
 ghost use Rattle.endpoint.specs.Steps.{step, install as installOf};
 use crate::Answer;
 use crate::EndPoint;
@@ -13,10 +14,11 @@ use crate::forward;
 use crate::sound;
 use slots::Slots;
 
-fn install_plan(e: EndPoint) -> InstallPlan
+fn install_plan(e: EndPoint, ok: bool) -> InstallPlan
+    requires { ⌜ ok ≡ soundOf e ⌝ }
     ensures { λ r. ⌜ InstallPlanned e r ⌝ }
 {
-    if !sound::sound(e) {
+    if !ok {
         return InstallPlan { number: 1, set: 0 };
     }
     let ready = forward::ready(e);
@@ -47,7 +49,8 @@ impl EndPoint {
     pub fn install(mut self) -> Answer
         ensures { λ r. ⌜ r ≡ step installOf self [] ⌝ }
     {
-        let p = install_plan(self);
+        let ok = sound::sound(self);
+        let p = install_plan(self, ok);
         if p.number != 0 {
             return answers::plain(self, p.number);
         }

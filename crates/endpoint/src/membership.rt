@@ -3,6 +3,7 @@ ghost use mathlib.Core.List.{[]};
 ghost use mathlib.Core.Path.{_≡_};
 ghost use Rattle.endpoint.specs.Membership.{startChecks, membershipChecks};
 ghost use Rattle.endpoint.specs.Numbers.{verdict};
+ghost use Rattle.endpoint.specs.Sound.{sound as soundOf};
 ghost use Rattle.endpoint.specs.Steps.{step, startChange, membershipView};
 use crate::Answer;
 use crate::Change;
@@ -13,19 +14,19 @@ use agreement::Row;
 use views::View;
 use views::sets;
 
-fn start_number(e: EndPoint, number: u32, set: u8) -> u8
+fn start_number(e: EndPoint, ok: bool, number: u32, set: u8) -> u8
+    requires { ⌜ ok ≡ soundOf e ⌝ }
     ensures { λ r. ⌜ r ≡ verdict (startChecks e number set) ⌝ }
 {
-    let ok = sound::sound(e);
     let here = sets::contains(set, e.me);
     let old = answers::first(3, !(e.change.number < number), 0);
     answers::first(1, !ok, answers::first(2, !here, old))
 }
 
-fn membership_number(e: EndPoint, v: View) -> u8
+fn membership_number(e: EndPoint, ok: bool, v: View) -> u8
+    requires { ⌜ ok ≡ soundOf e ⌝ }
     ensures { λ r. ⌜ r ≡ verdict (membershipChecks e v) ⌝ }
 {
-    let ok = sound::sound(e);
     let formed = v.well_formed();
     let here = sets::contains(v.set, e.me);
     let inside = sets::within(v.set, e.change.set);
@@ -40,7 +41,8 @@ impl EndPoint {
     pub fn start_change(mut self, number: u32, set: u8) -> Answer
         ensures { λ r. ⌜ r ≡ step (startChange number set) self [] ⌝ }
     {
-        let n = start_number(self, number, set);
+        let ok = sound::sound(self);
+        let n = start_number(self, ok, number, set);
         if n != 0 {
             return answers::plain(self, n);
         }
@@ -57,7 +59,8 @@ impl EndPoint {
     pub fn membership_view(mut self, v: View) -> Answer
         ensures { λ r. ⌜ r ≡ step (membershipView v) self [] ⌝ }
     {
-        let n = membership_number(self, v);
+        let ok = sound::sound(self);
+        let n = membership_number(self, ok, v);
         if n != 0 {
             return answers::plain(self, n);
         }

@@ -6,6 +6,7 @@ ghost use Rattle.slots.specs.Slots.{slotOf};
 ghost use Rattle.endpoint.specs.Change.{declaredSet as declaredOf, announceChecks, passChecks, ownCut, syncOutChecks};
 ghost use Rattle.endpoint.specs.Numbers.{verdict};
 ghost use Rattle.endpoint.specs.Pass.{Planned};
+ghost use Rattle.endpoint.specs.Sound.{sound as soundOf};
 ghost use Rattle.endpoint.specs.Steps.{step, askToBlock, declare as declareOf, announce as announceOf, passOut, sync as syncOf};
 use crate::Answer;
 use crate::EndPoint;
@@ -26,30 +27,32 @@ fn declared_set(e: EndPoint) -> u8
     e.current.set
 }
 
-fn announce_number(e: EndPoint) -> u8
+fn announce_number(e: EndPoint, ok: bool) -> u8
+    requires { ⌜ ok ≡ soundOf e ⌝ }
     ensures { λ r. ⌜ r ≡ verdict (announceChecks e) ⌝ }
 {
-    let ok = sound::sound(e);
     let declared = sets::within(e.current.set, e.declared);
     let told = answers::first(10, e.told == 1, 0);
     answers::first(1, !ok, answers::first(8, !declared, told))
 }
 
 // Where p's next word to pass out stands.
-fn pass_plan(e: EndPoint, area: &[u64]) -> Plan
+fn pass_plan(e: EndPoint, ok: bool, area: &[u64]) -> Plan
+    requires { ⌜ ok ≡ soundOf e ⌝ }
     ensures { λ r. ⌜ Planned (passChecks e (now (area .entry))) (slotOf (e .slots) (e .current)) (e .passed + 1) r ⌝ }
 {
-    if sound::unfit(e, area) {
+    if sound::unfit(ok, area) {
         return Plan {
             number: 1,
             slot: 0,
             index: 0,
         };
     }
+    let current = e.current;
     let held = e.slots;
     let tags = held.tags;
     let rows = held.marks;
-    let slot = slots::slot_in(tags, e.current);
+    let slot = slots::slot_in(tags, current);
     let run = marks::run_in(slots::marks_in(rows, slot), e.me);
     let none = answers::first(10, !(e.passed < run), 0);
     Plan {
@@ -63,18 +66,19 @@ fn pass_plan(e: EndPoint, area: &[u64]) -> Plan
 fn own_cut(e: EndPoint) -> Cut
     ensures { λ r. ⌜ r ≡ ownCut e ⌝ }
 {
+    let current = e.current;
     let held = e.slots;
     let tags = held.tags;
     let rows = held.marks;
-    let slot = slots::slot_in(tags, e.current);
+    let slot = slots::slot_in(tags, current);
     let m = slots::marks_in(rows, slot);
     parts::cut_of(e.current.set, m)
 }
 
-fn sync_number(e: EndPoint) -> u8
+fn sync_number(e: EndPoint, ok: bool) -> u8
+    requires { ⌜ ok ≡ soundOf e ⌝ }
     ensures { λ r. ⌜ r ≡ verdict (syncOutChecks e) ⌝ }
 {
-    let ok = sound::sound(e);
     let held = e.records.holds(e.me, e.change.number);
     let inside = sets::within(e.change.set, e.declared);
     let turn = (e.change.pending == 1) & ((e.change.block == 2) & !held);
@@ -116,7 +120,8 @@ impl EndPoint {
     pub fn announce(mut self) -> Answer
         ensures { λ r. ⌜ r ≡ step announceOf self [] ⌝ }
     {
-        let n = announce_number(self);
+        let ok = sound::sound(self);
+        let n = announce_number(self, ok);
         if n != 0 {
             return answers::plain(self, n);
         }
@@ -130,7 +135,8 @@ impl EndPoint {
     pub fn pass_out(mut self, area: &[u64]) -> Answer
         ensures { λ r. ⌜ r ≡ step passOut self (now (area .entry)) ⌝ }
     {
-        let p = pass_plan(self, area);
+        let ok = sound::sound(self);
+        let p = pass_plan(self, ok, area);
         if p.number != 0 {
             return answers::plain(self, p.number);
         }
@@ -144,7 +150,8 @@ impl EndPoint {
     pub fn sync(mut self) -> Answer
         ensures { λ r. ⌜ r ≡ step syncOf self [] ⌝ }
     {
-        let n = sync_number(self);
+        let ok = sound::sound(self);
+        let n = sync_number(self, ok);
         if n != 0 {
             return answers::plain(self, n);
         }

@@ -5,6 +5,7 @@ ghost use Prim.Native.Nat.{_<_};
 ghost use Rattle.endpoint.specs.Numbers.{accepted, settle, settleArea};
 ghost use Rattle.endpoint.specs.Pass.{viewPlan, wordPlan, forwardPlan, Receivable};
 ghost use Rattle.endpoint.specs.Receive.{unreceivable as unreceivableOf, viewChecks, afterView, wordChecks, afterWord, areaAfterWord, syncChecks, afterSync, forwardChecks, afterForward, areaAfterForward, needsSlot as needsOf};
+ghost use Rattle.endpoint.specs.Sound.{sound as soundOf};
 ghost use Rattle.endpoint.specs.Steps.{step, areaAfter, receive as receiveOf};
 use crate::Answer;
 use crate::EndPoint;
@@ -18,10 +19,11 @@ use views::View;
 use views::sets;
 
 // What every message is asked first.
-fn unreceivable(e: EndPoint, area: &[u64], q: u8, m: Message) -> bool
+fn unreceivable(e: EndPoint, ok: bool, area: &[u64], q: u8, m: Message) -> bool
+    requires { ⌜ ok ≡ soundOf e ⌝ }
     ensures { λ r. ⌜ r ≡ unreceivableOf e (now (area .entry)) q m ⌝ }
 {
-    let unfit = sound::unfit(e, area);
+    let unfit = sound::unfit(ok, area);
     let formed = m.well_formed();
     unfit | (!(q <= 7) | ((q == e.me) | (!formed | !(m.kind <= 4))))
 }
@@ -77,18 +79,15 @@ fn word_plan(e: EndPoint, area: &[u64], q: u8, w: u64) -> WordPlan
     requires { ⌜ Receivable e (now area) q ⌝ }
     ensures { λ r. ⌜ r ≡ wordPlan e (now (area .entry)) q w ⌝ }
 {
+    let current = e.current;
+    let views = e.heard;
+    let counts = e.received;
     let held = e.slots;
     let tags = held.tags;
     let rows = held.marks;
-    let heard = e.heard[q as usize];
-    let n = e.received[q as usize];
-    let spent = slots::spent(
-        e.me,
-        e.current,
-        e.change.number,
-        e.change.pending == 1,
-        heard,
-    );
+    let heard = views[q as usize];
+    let n = counts[q as usize];
+    let spent = slots::spent(e.me, current, e.change.number, e.change.pending == 1, heard);
     let slot = slots::slot_in(tags, heard);
     let other = parts::other_word(slots::marks_in(rows, slot), area, slot, q, n + 1, w);
     let full = answers::first(
@@ -109,18 +108,16 @@ fn take_word(mut e: EndPoint, area: &mut [u64], q: u8, w: u64) -> Answer
     ensures { λ r. ⌜ (r ≡ settle (wordChecks e (now (area .entry)) q w) e (accepted (afterWord e q))) × (now (area .exit) ≡ settleArea (wordChecks e (now (area .entry)) q w) (now (area .entry)) (areaAfterWord e (now (area .entry)) q w)) ⌝ }
 {
     let p = word_plan(e, area, q, w);
-    if p.number != 0 {
-        return answers::plain(e, p.number);
+    if (p.number == 0) & p.stored {
+        let at = slots::place(p.slot, q, p.index);
+        area[at] = w;
+        let next = e.slots.mark(p.slot, q, p.index);
+        let mut counts = e.received;
+        counts[q as usize] = p.index;
+        e.slots = next;
+        e.received = counts;
     }
-    if !p.stored {
-        return answers::plain(e, 0);
-    }
-    let at = slots::place(p.slot, q, p.index);
-    area[at] = w;
-    let next = e.slots.mark(p.slot, q, p.index);
-    e.slots = next;
-    e.received[q as usize] = p.index;
-    answers::plain(e, 0)
+    answers::plain(e, p.number)
 }
 
 fn take_sync(mut e: EndPoint, q: u8, m: Message) -> Answer
@@ -196,7 +193,8 @@ impl EndPoint {
     pub fn receive(self, area: &mut [u64], q: u8, m: Message) -> Answer
         ensures { λ r. ⌜ (r ≡ step (receiveOf q m) self (now (area .entry))) × (now (area .exit) ≡ areaAfter (receiveOf q m) self (now (area .entry))) ⌝ }
     {
-        if unreceivable(self, area, q, m) {
+        let ok = sound::sound(self);
+        if unreceivable(self, ok, area, q, m) {
             return answers::plain(self, 1);
         }
         if m.kind == 1 {

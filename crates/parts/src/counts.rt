@@ -2,7 +2,9 @@
 ghost use mathlib.Core.Bool.{true, cond};
 ghost use mathlib.Core.Path.{_≡_};
 ghost use Prim.Native.Nat.{_≤_};
-ghost use lib.Dec.{leb};
+ghost use lib.Dec.{eqb, leb};
+ghost use lib.ListN.{getD};
+ghost use Rattle.below.specs.Below.{allBelow};
 ghost use Rattle.views.specs.Sets.{has};
 ghost use Rattle.marks.specs.Marks.{runIn};
 ghost use Rattle.parts.specs.Counts.{rowFits, rowsFit, givenFit, atLeast, cutOf};
@@ -11,9 +13,25 @@ use marks::Marks;
 use views::Cut;
 use views::sets;
 
+// Whether all marks are 0, as they are from a membership view to the first forward: one comparison.
+fn row_zero(row: Row) -> bool
+    ensures { λ r. ⌜ r ≡ allBelow (λ k. eqb (getD (row .marks) k 0) 0) 8 ⌝ }
+{
+    let mut ok = true;
+    let mut r: usize = 0;
+    while r < 8 {
+        ok = ok & (row.marks[r] == 0);
+        r += 1;
+    }
+    ok
+}
+
 fn row_fits(row: Row) -> bool
     ensures { λ r. ⌜ r ≡ rowFits row ⌝ }
 {
+    if row_zero(row) {
+        return true;
+    }
     let mut ok = true;
     let mut r: usize = 0;
     while r < 8 {

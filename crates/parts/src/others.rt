@@ -2,13 +2,15 @@
 ghost use mathlib.Core.Bool.{_||_};
 ghost use mathlib.Core.Path.{_≡_};
 ghost use lib.Dec.{eqb};
-ghost use Rattle.parts.specs.Others.{placed as placedOf, otherFits, othersFit};
+ghost use Rattle.views.specs.Views.{same};
+ghost use Rattle.slots.specs.Spent.{spentBy};
+ghost use Rattle.parts.specs.Others.{othersFit};
 use slots::Tag;
 use views::View;
 
-// Whether an announced view of positive id that is neither current nor spent has a slot.
-fn placed(p: u8, current: View, latest: u32, pending: bool, tags: [Tag; 4], v: View) -> bool
-    ensures { λ r. ⌜ r ≡ placedOf p current latest pending tags v ⌝ }
+// Whether a view asks for no slot: it is initial, current or spent.
+fn slotless(p: u8, current: View, latest: u32, pending: bool, v: View) -> bool
+    ensures { λ r. ⌜ r ≡ (eqb (v .id) 0 || (same v current || spentBy p current latest pending v)) ⌝ }
 {
     if v.id == 0 {
         return true;
@@ -16,29 +18,10 @@ fn placed(p: u8, current: View, latest: u32, pending: bool, tags: [Tag; 4], v: V
     if v.same(current) {
         return true;
     }
-    if slots::spent(p, current, latest, pending, v) {
-        return true;
-    }
-    slots::slot_in(tags, v) < 4
+    slots::spent(p, current, latest, pending, v)
 }
 
-fn other_fits(
-    p: u8,
-    current: View,
-    latest: u32,
-    pending: bool,
-    tags: [Tag; 4],
-    q: u8,
-    v: View,
-    count: u8,
-) -> bool
-    ensures { λ r. ⌜ r ≡ (eqb q p || otherFits p current latest pending tags v count) ⌝ }
-{
-    let formed = v.well_formed();
-    let in_place = placed(p, current, latest, pending, tags, v);
-    (q == p) | (formed & ((count <= 128) & in_place))
-}
-
+// The tags are searched here and not in a function for one sender, which would copy them for each.
 pub fn others_fit(
     p: u8,
     current: View,
@@ -53,16 +36,13 @@ pub fn others_fit(
     let mut ok = true;
     let mut q: u8 = 0;
     while q < 8 {
-        let f = other_fits(
-            p,
-            current,
-            latest,
-            pending,
-            tags,
-            q,
-            heard[q as usize],
-            received[q as usize],
-        );
+        let v = heard[q as usize];
+        let formed = v.well_formed();
+        let mut placed = slotless(p, current, latest, pending, v);
+        if !placed {
+            placed = slots::slot_in(tags, v) < 4;
+        }
+        let f = (q == p) | (formed & ((received[q as usize] <= 128) & placed));
         ok = ok & f;
         q += 1;
     }

@@ -7,15 +7,18 @@ use borrow.Author.Needs.{needs}
 use Rattle.endpoint.proofs.EndPoint.forward.Statement.{statement}
 use Rattle.endpoint.proofs.EndPoint.forward.Tie as tie
 
+sound-requires : tie.Need-sound-requires
+sound-requires c κs = search needs
+
 forward-plan-requires : tie.Need-forward-plan-requires
-forward-plan-requires c κs = search needs
+forward-plan-requires c κs = c .sound .ensures
 
 plain-requires : tie.Need-plain-requires
 plain-requires c κs = search needs
 
 returns : tie.Need-returns
 unfolding checks
-returns c = c .plain .ensures ∙ refused (forward (c .before .before .before .before .before .args .q) (c .before .before .before .before .before .args .r)) (c .before .before .before .before .before .args .self) (c .before .before .before .before .before .args .area .now) _ (c .before .before .before .forward-plan .ensures .number) (c .before .if1 .taken)
+returns c = c .plain .ensures ∙ refused (forward (c .before .before .before .before .before .before .args .q) (c .before .before .before .before .before .before .args .r)) (c .before .before .before .before .before .before .args .self) (c .before .before .before .before .before .before .args .area .now) _ (c .before .before .before .forward-plan .ensures .number) (c .before .if1 .taken)
 
 place-requires : tie.Need-place-requires
 place-requires c κs = search needs
@@ -37,13 +40,13 @@ sends-requires c κs = search needs
 
 returns-2 : tie.Need-returns-2
 unfolding checks effect forwards raised
-returns-2 c = c .sends .ensures ∙ rw (c .before .only .ensures, c .before .before .raised .ensures, c .before .before .before .before .of-forward .ensures, c .before .before .before .before .before .word-at .ensures, c .before .before .before .before .before .before .place .ensures, c .before .before .before .before .before .before .before .before .before .forward-plan .ensures .slot (sym (c .before .before .before .before .before .before .before .before .before .forward-plan .ensures .number) ∙ c .before .before .before .before .before .before .before .if1 .left), c .before .before .before .before .before .before .before .before .before .forward-plan .ensures .index (sym (c .before .before .before .before .before .before .before .before .before .forward-plan .ensures .number) ∙ c .before .before .before .before .before .before .before .if1 .left)) (done (forward (c .before .before .before .before .before .before .before .before .before .before .before .args .q) (c .before .before .before .before .before .before .before .before .before .before .before .args .r)) (c .before .before .before .before .before .before .before .before .before .before .before .args .self) (c .before .before .before .before .before .before .before .before .before .before .before .args .area .now) _ (c .before .before .before .before .before .before .before .before .before .forward-plan .ensures .number) (c .before .before .before .before .before .before .before .if1 .left))
+returns-2 c = c .sends .ensures ∙ rw (c .before .only .ensures, c .before .before .raised .ensures, c .before .before .before .before .of-forward .ensures, c .before .before .before .before .before .word-at .ensures, c .before .before .before .before .before .before .place .ensures, c .before .before .before .before .before .before .before .before .before .forward-plan .ensures .slot (sym (c .before .before .before .before .before .before .before .before .before .forward-plan .ensures .number) ∙ c .before .before .before .before .before .before .before .if1 .left), c .before .before .before .before .before .before .before .before .before .forward-plan .ensures .index (sym (c .before .before .before .before .before .before .before .before .before .forward-plan .ensures .number) ∙ c .before .before .before .before .before .before .before .if1 .left)) (done (forward (c .before .before .before .before .before .before .before .before .before .before .before .before .args .q) (c .before .before .before .before .before .before .before .before .before .before .before .before .args .r)) (c .before .before .before .before .before .before .before .before .before .before .before .before .args .self) (c .before .before .before .before .before .before .before .before .before .before .before .before .args .area .now) _ (c .before .before .before .before .before .before .before .before .before .forward-plan .ensures .number) (c .before .before .before .before .before .before .before .if1 .left))
 
 pub forward-spec : {M : Type 1} → statement M
 forward-spec =
     tie.close
     (tie.spec
-    forward-plan-requires
+    sound-requires forward-plan-requires
     plain-requires
     returns
     place-requires

@@ -5,8 +5,11 @@ use borrow.Author.Needs.{needs}
 use Rattle.endpoint.proofs.EndPoint.receive.Statement.{statement}
 use Rattle.endpoint.proofs.EndPoint.receive.Tie as tie
 
+sound-requires : tie.Need-sound-requires
+sound-requires c κs = search needs
+
 unreceivable-requires : tie.Need-unreceivable-requires
-unreceivable-requires c κs = search needs
+unreceivable-requires c κs = c .before .sound .ensures
 
 plain-requires : tie.Need-plain-requires
 plain-requires c κs = search needs
@@ -16,12 +19,12 @@ same-length c = search needs
 
 returns : tie.Need-returns
 returns c =
-    let a = c .before .before .before .before .before .args in
+    let a = c .before .before .before .before .before .before .args in
     receive-no (a .self) (a .area .now) (a .q) (a .m) (c .plain .result) (sym (c .before .before .unreceivable .ensures) ∙ c .before .if1 .taken) (c .plain .ensures)
 
 take-view-requires : tie.Need-take-view-requires
 take-view-requires c κs =
-    let a = c .before .before .before .before .before .before .args in
+    let a = c .before .before .before .before .before .before .before .args in
     let u = passes (a .self) (a .area .now) (a .q) (a .m) (c .before .before .before .unreceivable .result) (c .before .before .before .unreceivable .ensures) (c .before .before .if1 .left) in
     receivable (a .self) (a .area .now) (a .q) (a .m) u .low
 
@@ -30,13 +33,13 @@ same-length-2 c = search needs
 
 returns-2 : tie.Need-returns-2
 returns-2 c =
-    let a = c .before .before .before .before .before .before .before .args in
+    let a = c .before .before .before .before .before .before .before .before .args in
     let u = passes (a .self) (a .area .now) (a .q) (a .m) (c .before .before .before .before .unreceivable .result) (c .before .before .before .before .unreceivable .ensures) (c .before .before .before .if1 .left) in
     receive-view (a .self) (a .area .now) (a .q) (a .m) (c .take-view .result) u (c .before .if2 .taken) (c .take-view .ensures)
 
 take-word-requires : tie.Need-take-word-requires
 take-word-requires c κs =
-    let a = c .before .before .before .before .before .before .before .before .before .args in
+    let a = c .before .before .before .before .before .before .before .before .before .before .args in
     let u = passes (a .self) (a .area .now) (a .q) (a .m) (c .before .before .before .before .before .before .unreceivable .result) (c .before .before .before .before .before .before .unreceivable .ensures) (c .before .before .before .before .before .if1 .left) in
     receivable (a .self) (a .area .now) (a .q) (a .m) u
 
@@ -45,7 +48,7 @@ same-length-3 c = search needs
 
 returns-3 : tie.Need-returns-3
 returns-3 c =
-    let a = c .before .before .before .before .before .before .before .before .before .before .before .before .args in
+    let a = c .before .before .before .before .before .before .before .before .before .before .before .before .before .args in
     let u = passes (a .self) (a .area .now) (a .q) (a .m) (c .before .before .before .before .before .before .before .before .before .unreceivable .result) (c .before .before .before .before .before .before .before .before .before .unreceivable .ensures) (c .before .before .before .before .before .before .before .before .if1 .left) in
     receive-word (a .self) (a .area .now) (a .q) (a .m) (c .before .before .take-word .result) u _ (c .before .before .before .before .if3 .taken) (c .before .before .take-word .ensures .0) (c .before .before .take-word .ensures .1)
 
@@ -57,13 +60,13 @@ same-length-4 c = search needs
 
 returns-4 : tie.Need-returns-4
 returns-4 c =
-    let a = c .before .before .before .before .before .before .before .before .before .before .before .args in
+    let a = c .before .before .before .before .before .before .before .before .before .before .before .before .args in
     let u = passes (a .self) (a .area .now) (a .q) (a .m) (c .before .before .before .before .before .before .before .before .unreceivable .result) (c .before .before .before .before .before .before .before .before .unreceivable .ensures) (c .before .before .before .before .before .before .before .if1 .left) in
     receive-sync (a .self) (a .area .now) (a .q) (a .m) (c .take-sync .result) u (c .before .if4 .taken) (c .take-sync .ensures)
 
 take-forward-requires : tie.Need-take-forward-requires
 take-forward-requires c κs =
-    let a = c .before .before .before .before .before .before .before .before .before .before .before .args in
+    let a = c .before .before .before .before .before .before .before .before .before .before .before .before .args in
     let u = passes (a .self) (a .area .now) (a .q) (a .m) (c .before .before .before .before .before .before .before .before .unreceivable .result) (c .before .before .before .before .before .before .before .before .unreceivable .ensures) (c .before .before .before .before .before .before .before .if1 .left) in
     (u, (kind-four (a .self) (a .area .now) (a .q) (a .m) u (c .before .before .before .before .before .if2 .left) (c .before .before .before .if3 .left) (c .before .if4 .left)))
 
@@ -72,7 +75,7 @@ same-length-5 c = search needs
 
 returns-5 : tie.Need-returns-5
 returns-5 c =
-    let a = c .before .before .before .before .before .before .before .before .before .before .before .before .before .before .args in
+    let a = c .before .before .before .before .before .before .before .before .before .before .before .before .before .before .before .args in
     let u = passes (a .self) (a .area .now) (a .q) (a .m) (c .before .before .before .before .before .before .before .before .before .before .before .unreceivable .result) (c .before .before .before .before .before .before .before .before .before .before .before .unreceivable .ensures) (c .before .before .before .before .before .before .before .before .before .before .if1 .left) in
     receive-forward (a .self) (a .area .now) (a .q) (a .m) (c .before .before .take-forward .result) u _ (kind-four (a .self) (a .area .now) (a .q) (a .m) u (c .before .before .before .before .before .before .before .before .if2 .left) (c .before .before .before .before .before .before .if3 .left) (c .before .before .before .before .if4 .left)) (c .before .before .take-forward .ensures .0) (c .before .before .take-forward .ensures .1)
 
@@ -80,7 +83,7 @@ pub receive-spec : {M : Type 1} → statement M
 receive-spec =
     tie.close
     (tie.spec
-    unreceivable-requires
+    sound-requires unreceivable-requires
     plain-requires
     same-length
     returns

@@ -10,7 +10,7 @@ none-requires : tie.Need-none-requires
 none-requires c κs = search needs
 
 returns : tie.Need-returns
-returns c = rw (c .before .blank .ensures, c .none .ensures)
+returns c = rw (c .before .before .blank .ensures, c .before .none .ensures)
 
 pub gives-spec : {M : Type 1} → statement M
 gives-spec = tie.close (tie.spec blank-requires none-requires returns)

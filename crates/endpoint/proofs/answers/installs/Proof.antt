@@ -7,7 +7,7 @@ blank-requires : tie.Need-blank-requires
 blank-requires c κs = search needs
 
 returns : tie.Need-returns
-returns c = rw (c .blank .ensures)
+returns c = rw (c .before .blank .ensures)
 
 pub installs-spec : {M : Type 1} → statement M
 installs-spec = tie.close (tie.spec blank-requires returns)

@@ -7,7 +7,7 @@ none-requires : tie.Need-none-requires
 none-requires c κs = search needs
 
 returns : tie.Need-returns
-returns c = rw (c .none .ensures)
+returns c = rw (c .before .none .ensures)
 
 pub sends-spec : {M : Type 1} → statement M
 sends-spec = tie.close (tie.spec none-requires returns)

@@ -4,7 +4,7 @@ use native.Mathlib.Omega.{arith}
 use mathlib.Core.List.{_++_}
 use mathlib.Core.Path.{_≡_, refl, _∙_}
 use lib.ListN.{length, drop, length-set}
-use Rattle.endpoint.specs.Give.{wordsAfter}
+use Rattle.endpoint.specs.Pass.{wordsAfter}
 use Rattle.endpoint.proofs.Batching.{copy-none, copy-more, copy-end}
 use Rattle.endpoint.proofs.batches.copy_words.Statement.{statement}
 use Rattle.endpoint.proofs.batches.copy_words.Tie as tie

@@ -1,6 +1,6 @@
 -- `give_plan` meets its contract. Assumes nothing.
 use Rattle.endpoint.specs.Numbers.{verdict}
-use Rattle.endpoint.proofs.Planning.{planned-no, planned-yes, slot-is, run-is, held-is, fit-of, passed-low, given-low, send-within, place-within, whole, low-one, low-two}
+use Rattle.endpoint.proofs.Planning.{unfit-is, planned-no, planned-yes, slot-is, run-is, held-is, fit-of, passed-low, given-low, send-within, place-within, whole, low-one, low-two}
 use Prim.Native.Nat.{ℕ, _+_}
 use native.Mathlib.Omega.{arith}
 use Rattle.slots.proofs.Finding.{run-low}
@@ -16,13 +16,13 @@ unfit-requires c κs = search needs
 
 returns : tie.Need-returns
 unfolding giveChecks
-returns c = planned-no _ _ _ _ (rw (c .before .unfit .ensures) at (c .if1 .taken))
+returns c = planned-no _ _ _ _ (rw (unfit-is (c .before .before .before .args .e) (c .before .before .before .args .area .now) _ _ (c .before .before .before .pre) (c .before .unfit .ensures)) at (c .if1 .taken))
 
-element-copy-out-next : tie.Need-element-copy-out-next
-element-copy-out-next c = (low-one (unfit (c .before .before .before .before .before .before .args .t1) (c .before .before .before .before .before .before .args .area .now)) (c .before .before .before .before .before .before .args .q) (rw (c .before .before .before .before .unfit .ensures) at (c .before .before .before .if1 .left))) .1
+array-read-next : tie.Need-array-read-next
+array-read-next c = (low-one (unfit (c .before .before .before .before .before .before .before .before .args .e) (c .before .before .before .before .before .before .before .before .args .area .now)) (c .before .before .before .before .before .before .before .before .args .q) (rw (unfit-is (c .before .before .before .before .before .before .before .before .args .e) (c .before .before .before .before .before .before .before .before .args .area .now) _ _ (c .before .before .before .before .before .before .before .before .pre) (c .before .before .before .before .before .before .unfit .ensures)) at (c .before .before .before .before .before .if1 .left))) .1
 
 add-next : tie.Need-add-next
-add-next c = omega (arith, given-low (c .before .before .before .before .before .before .before .args .t1) (fit-of (c .before .before .before .before .before .before .before .args .t1) (c .before .before .before .before .before .before .before .args .area .now) ((low-one (unfit (c .before .before .before .before .before .before .before .args .t1) (c .before .before .before .before .before .before .before .args .area .now)) (c .before .before .before .before .before .before .before .args .q) (rw (c .before .before .before .before .before .unfit .ensures) at (c .before .before .before .before .if1 .left))) .0) .0) (c .before .before .before .before .before .before .before .args .q) ((low-one (unfit (c .before .before .before .before .before .before .before .args .t1) (c .before .before .before .before .before .before .before .args .area .now)) (c .before .before .before .before .before .before .before .args .q) (rw (c .before .before .before .before .before .unfit .ensures) at (c .before .before .before .before .if1 .left))) .1), run-low (c .before .before .before .before .before .before .before .args .t1 .slots) (c .before .before .before .before .before .before .before .args .t1 .current) (c .before .before .before .before .before .before .before .args .q))
+add-next c = omega (arith, given-low (c .before .before .before .before .before .before .before .before .args .e) (fit-of (c .before .before .before .before .before .before .before .before .args .e) (c .before .before .before .before .before .before .before .before .args .area .now) ((low-one (unfit (c .before .before .before .before .before .before .before .before .args .e) (c .before .before .before .before .before .before .before .before .args .area .now)) (c .before .before .before .before .before .before .before .before .args .q) (rw (unfit-is (c .before .before .before .before .before .before .before .before .args .e) (c .before .before .before .before .before .before .before .before .args .area .now) _ _ (c .before .before .before .before .before .before .before .before .pre) (c .before .before .before .before .before .before .unfit .ensures)) at (c .before .before .before .before .before .if1 .left))) .0) .0) (c .before .before .before .before .before .before .before .before .args .q) ((low-one (unfit (c .before .before .before .before .before .before .before .before .args .e) (c .before .before .before .before .before .before .before .before .args .area .now)) (c .before .before .before .before .before .before .before .before .args .q) (rw (unfit-is (c .before .before .before .before .before .before .before .before .args .e) (c .before .before .before .before .before .before .before .before .args .area .now) _ _ (c .before .before .before .before .before .before .before .before .pre) (c .before .before .before .before .before .before .unfit .ensures)) at (c .before .before .before .before .before .if1 .left))) .1), run-low (c .before .before .before .before .before .before .before .before .args .e .slots) (c .before .before .before .before .before .before .before .before .args .e .current) (c .before .before .before .before .before .before .before .before .args .q))
 
 slot-in-requires : tie.Need-slot-in-requires
 slot-in-requires c κs = search needs
@@ -38,7 +38,7 @@ holds-requires c κs = search needs
 
 beyond-cut-requires : tie.Need-beyond-cut-requires
 unfolding nextGiven
-beyond-cut-requires c κs = ((low-one (unfit (c .before .before .before .before .before .before .before .before .before .before .before .before .args .t1) (c .before .before .before .before .before .before .before .before .before .before .before .before .args .area .now)) (c .before .before .before .before .before .before .before .before .before .before .before .before .args .q) (rw (c .before .before .before .before .before .before .before .before .before .before .unfit .ensures) at (c .before .before .before .before .before .before .before .before .before .if1 .left))) .1, refl)
+beyond-cut-requires c κs = ((low-one (unfit (c .before .before .before .before .before .before .before .before .before .before .before .before .args .e) (c .before .before .before .before .before .before .before .before .before .before .before .before .args .area .now)) (c .before .before .before .before .before .before .before .before .before .before .before .before .args .q) (rw (unfit-is (c .before .before .before .before .before .before .before .before .before .before .before .before .args .e) (c .before .before .before .before .before .before .before .before .before .before .before .before .args .area .now) _ _ (c .before .before .before .before .before .before .before .before .before .before .before .before .pre) (c .before .before .before .before .before .before .before .before .before .before .unfit .ensures)) at (c .before .before .before .before .before .before .before .before .before .if1 .left))) .1, refl)
 
 first-requires : tie.Need-first-requires
 first-requires c κs = search needs
@@ -51,7 +51,7 @@ first-requires-3 c κs = search needs
 
 returns-2 : tie.Need-returns-2
 unfolding giveChecks verdict nextGiven nothingNext
-returns-2 c = planned-yes _ _ _ _ _ _ _ (rw (c .before .before .before .before .before .before .before .before .before .before .before .before .before .before .unfit .ensures) at (c .before .before .before .before .before .before .before .before .before .before .before .before .before .if1 .left)) (c .first3 .ensures ∙ rw (c .before .first2 .ensures, c .before .before .first .ensures, c .before .before .before .before .before .before .contains .ensures, c .before .before .before .beyond-cut .ensures, held-is (c .before .before .before .before .before .before .before .before .before .before .before .before .before .before .before .before .args .t1 .slots) (c .before .before .before .before .before .before .before .before .before .before .before .before .before .before .before .before .args .t1 .current) (c .before .before .before .before .before .before .before .slot-in .result) (c .before .before .before .before .before .before .before .slot-in .ensures .0) (c .before .before .before .before .before .marks-in .result) _ _ _ (c .before .before .before .before .before .marks-in .ensures) (c .before .before .before .before .holds .ensures)) refl) (slot-is (c .before .before .before .before .before .before .before .before .before .before .before .before .before .before .before .before .args .t1 .slots) (c .before .before .before .before .before .before .before .before .before .before .before .before .before .before .before .before .args .t1 .current) _ (c .before .before .before .before .before .before .before .slot-in .ensures .0)) refl
+returns-2 c = planned-yes _ _ _ _ _ _ _ (rw (unfit-is (c .before .before .before .before .before .before .before .before .before .before .before .before .before .before .before .before .before .before .args .e) (c .before .before .before .before .before .before .before .before .before .before .before .before .before .before .before .before .before .before .args .area .now) _ _ (c .before .before .before .before .before .before .before .before .before .before .before .before .before .before .before .before .before .before .pre) (c .before .before .before .before .before .before .before .before .before .before .before .before .before .before .before .before .unfit .ensures)) at (c .before .before .before .before .before .before .before .before .before .before .before .before .before .before .before .if1 .left)) (c .first3 .ensures ∙ rw (c .before .first2 .ensures, c .before .before .first .ensures, c .before .before .before .before .before .before .before .before .contains .ensures, c .before .before .before .before .before .beyond-cut .ensures, held-is (c .before .before .before .before .before .before .before .before .before .before .before .before .before .before .before .before .before .before .args .e .slots) (c .before .before .before .before .before .before .before .before .before .before .before .before .before .before .before .before .before .before .args .e .current) (c .before .before .before .before .before .before .before .before .before .slot-in .result) (c .before .before .before .before .before .before .before .before .before .slot-in .ensures .0) (c .before .before .before .before .before .before .before .marks-in .result) _ _ _ (c .before .before .before .before .before .before .before .marks-in .ensures) (c .before .before .before .before .before .before .holds .ensures)) refl) (slot-is (c .before .before .before .before .before .before .before .before .before .before .before .before .before .before .before .before .before .before .args .e .slots) (c .before .before .before .before .before .before .before .before .before .before .before .before .before .before .before .before .before .before .args .e .current) _ (c .before .before .before .before .before .before .before .before .before .slot-in .ensures .0)) refl
 
 pub give-plan-spec : {M : Type 1} → statement M
 give-plan-spec =
@@ -59,7 +59,7 @@ give-plan-spec =
     (tie.spec
     unfit-requires
     returns
-    element-copy-out-next
+    array-read-next
     add-next
     slot-in-requires
     contains-requires

@@ -8,11 +8,8 @@ use borrow.Author.Needs.{needs}
 use Rattle.endpoint.proofs.install.install_plan.Statement.{statement}
 use Rattle.endpoint.proofs.install.install_plan.Tie as tie
 
-sound-requires : tie.Need-sound-requires
-sound-requires c κs = search needs
-
 returns : tie.Need-returns
-returns c = install-no _ (told-not _ _ (c .if1 .taken) (c .before .sound .ensures))
+returns c = install-no _ (told-not _ _ (c .if1 .taken) (c .before .pre))
 
 ready-requires : tie.Need-ready-requires
 ready-requires c κs = search needs
@@ -46,13 +43,12 @@ first-requires-5 c κs = search needs
 
 returns-2 : tie.Need-returns-2
 unfolding verdict
-returns-2 c = let e = c .before .before .before .before .before .before .before .before .before .before .before .before .before .before .before .before .before .before .before .before .before .before .before .before .before .args .t1 in let s = told-so _ _ (c .before .before .before .before .before .before .before .before .before .before .before .before .before .before .before .before .before .before .before .before .before .before .before .if1 .left) (c .before .before .before .before .before .before .before .before .before .before .before .before .before .before .before .before .before .before .before .before .before .before .before .before .sound .ensures) in install-yes e _ _ s (c .first5 .ensures ∙ rw (c .before .first4 .ensures, c .before .before .first3 .ensures, c .before .before .before .first2 .ensures, c .before .before .before .before .first .ensures, c .before .before .before .before .before .before .before .before .before .before .before .before .before .before .before .before .before .before .before .before .before .before .ready .ensures, unnamed-is e _ (c .before .before .before .before .before .before .before .before .before .before .before .before .before .before .before .before .before .agree .ensures), owes-is e _ (c .before .before .before .before .before .before .before .before .before .before .before .before .before .before .before .before .before .agree .ensures) _ (me-low e s) (c .before .before .before .before .before .before .before .before .before .before .before .before .before .before .before .before .owes .ensures), fewer-is e _ (c .before .before .before .before .before .before .before .before .before .before .before .before .before .before .before .before .before .agree .ensures) _ (c .before .before .before .before .before .before .before .before .before .before .counts-least .ensures), more-is e _ (c .before .before .before .before .before .before .before .before .before .before .before .before .before .before .before .before .before .agree .ensures) _ (c .before .before .before .before .before .counts-least2 .ensures)) refl) (T-is e _ (c .before .before .before .before .before .before .before .before .before .before .before .before .before .before .before .before .before .agree .ensures))
+returns-2 c = let e = c .before .before .before .before .before .before .before .before .before .before .before .before .before .before .before .before .before .before .before .before .before .before .before .before .args .t1 in let s = told-so _ _ (c .before .before .before .before .before .before .before .before .before .before .before .before .before .before .before .before .before .before .before .before .before .before .before .if1 .left) (c .before .before .before .before .before .before .before .before .before .before .before .before .before .before .before .before .before .before .before .before .before .before .before .before .pre) in install-yes e _ _ s (c .first5 .ensures ∙ rw (c .before .first4 .ensures, c .before .before .first3 .ensures, c .before .before .before .first2 .ensures, c .before .before .before .before .first .ensures, c .before .before .before .before .before .before .before .before .before .before .before .before .before .before .before .before .before .before .before .before .before .before .ready .ensures, unnamed-is e _ (c .before .before .before .before .before .before .before .before .before .before .before .before .before .before .before .before .before .agree .ensures), owes-is e _ (c .before .before .before .before .before .before .before .before .before .before .before .before .before .before .before .before .before .agree .ensures) _ (me-low e s) (c .before .before .before .before .before .before .before .before .before .before .before .before .before .before .before .before .owes .ensures), fewer-is e _ (c .before .before .before .before .before .before .before .before .before .before .before .before .before .before .before .before .before .agree .ensures) _ (c .before .before .before .before .before .before .before .before .before .before .counts-least .ensures), more-is e _ (c .before .before .before .before .before .before .before .before .before .before .before .before .before .before .before .before .before .agree .ensures) _ (c .before .before .before .before .before .counts-least2 .ensures)) refl) (T-is e _ (c .before .before .before .before .before .before .before .before .before .before .before .before .before .before .before .before .before .agree .ensures))
 
 pub install-plan-spec : {M : Type 1} → statement M
 install-plan-spec =
     tie.close
     (tie.spec
-    sound-requires
     returns
     ready-requires
     agree-requires

@@ -6,9 +6,6 @@ use borrow.Author.Needs.{needs}
 use Rattle.endpoint.proofs.membership.membership_number.Statement.{statement}
 use Rattle.endpoint.proofs.membership.membership_number.Tie as tie
 
-sound-requires : tie.Need-sound-requires
-sound-requires c κs = search needs
-
 well-formed-requires : tie.Need-well-formed-requires
 well-formed-requires c κs = search needs
 
@@ -35,13 +32,12 @@ first-requires-4 c κs = search needs
 
 returns : tie.Need-returns
 unfolding verdict membershipChecks
-returns c = c .first4 .ensures ∙ rw (c .before .first3 .ensures, c .before .before .first2 .ensures, c .before .before .before .first .ensures, c .before .before .before .before .before .before .before .before .before .before .before .before .sound .ensures, c .before .before .before .before .before .before .before .before .before .before .before .well-formed .ensures, c .before .before .before .before .before .before .before .before .before .before .contains .ensures, c .before .before .before .before .before .before .before .before .before .within .ensures, c .before .before .before .before .before .before .before .before .start .ensures) refl
+returns c = c .first4 .ensures ∙ rw (c .before .first3 .ensures, c .before .before .first2 .ensures, c .before .before .before .first .ensures, c .before .before .before .before .before .before .before .before .before .before .before .before .pre, c .before .before .before .before .before .before .before .before .before .before .before .well-formed .ensures, c .before .before .before .before .before .before .before .before .before .before .contains .ensures, c .before .before .before .before .before .before .before .before .before .within .ensures, c .before .before .before .before .before .before .before .before .start .ensures) refl
 
 pub membership-number-spec : {M : Type 1} → statement M
 membership-number-spec =
     tie.close
     (tie.spec
-    sound-requires
     well-formed-requires
     contains-requires
     within-requires

@@ -6,9 +6,6 @@ use borrow.Author.Needs.{needs}
 use Rattle.endpoint.proofs.membership.start_number.Statement.{statement}
 use Rattle.endpoint.proofs.membership.start_number.Tie as tie
 
-sound-requires : tie.Need-sound-requires
-sound-requires c κs = search needs
-
 contains-requires : tie.Need-contains-requires
 contains-requires c κs = search needs
 
@@ -23,13 +20,12 @@ first-requires-3 c κs = search needs
 
 returns : tie.Need-returns
 unfolding verdict startChecks
-returns c = c .first3 .ensures ∙ rw (c .before .first2 .ensures, c .before .before .first .ensures, c .before .before .before .before .before .sound .ensures, c .before .before .before .before .contains .ensures) refl
+returns c = c .first3 .ensures ∙ rw (c .before .first2 .ensures, c .before .before .first .ensures, c .before .before .before .before .before .pre, c .before .before .before .before .contains .ensures) refl
 
 pub start-number-spec : {M : Type 1} → statement M
 start-number-spec =
     tie.close
     (tie.spec
-    sound-requires
     contains-requires
     first-requires
     first-requires-2

@@ -6,9 +6,6 @@ use borrow.Author.Needs.{needs}
 use Rattle.endpoint.proofs.own.announce_number.Statement.{statement}
 use Rattle.endpoint.proofs.own.announce_number.Tie as tie
 
-sound-requires : tie.Need-sound-requires
-sound-requires c κs = search needs
-
 within-requires : tie.Need-within-requires
 within-requires c κs = search needs
 
@@ -23,13 +20,12 @@ first-requires-3 c κs = search needs
 
 returns : tie.Need-returns
 unfolding verdict announceChecks
-returns c = c .first3 .ensures ∙ rw (c .before .first2 .ensures, c .before .before .first .ensures, c .before .before .before .before .before .sound .ensures, c .before .before .before .before .within .ensures) refl
+returns c = c .first3 .ensures ∙ rw (c .before .first2 .ensures, c .before .before .first .ensures, c .before .before .before .before .before .pre, c .before .before .before .before .within .ensures) refl
 
 pub announce-number-spec : {M : Type 1} → statement M
 announce-number-spec =
     tie.close
     (tie.spec
-    sound-requires
     within-requires
     first-requires
     first-requires-2

@@ -6,9 +6,6 @@ use borrow.Author.Needs.{needs}
 use Rattle.endpoint.proofs.own.sync_number.Statement.{statement}
 use Rattle.endpoint.proofs.own.sync_number.Tie as tie
 
-sound-requires : tie.Need-sound-requires
-sound-requires c κs = search needs
-
 holds-requires : tie.Need-holds-requires
 holds-requires c κs = search needs
 
@@ -26,13 +23,12 @@ first-requires-3 c κs = search needs
 
 returns : tie.Need-returns
 unfolding verdict syncOutChecks
-returns c = c .first3 .ensures ∙ rw (c .before .first2 .ensures, c .before .before .first .ensures, c .before .before .before .before .before .before .before .sound .ensures, c .before .before .before .before .before .before .holds .ensures, c .before .before .before .before .before .within .ensures) refl
+returns c = c .first3 .ensures ∙ rw (c .before .first2 .ensures, c .before .before .first .ensures, c .before .before .before .before .before .before .before .pre, c .before .before .before .before .before .before .holds .ensures, c .before .before .before .before .before .within .ensures) refl
 
 pub sync-number-spec : {M : Type 1} → statement M
 sync-number-spec =
     tie.close
     (tie.spec
-    sound-requires
     holds-requires
     within-requires
     first-requires

@@ -22,7 +22,7 @@ contains-requires-2 c κs = search needs
 
 returns : tie.Need-returns
 unfolding viewsSound
-returns c = rw (c .before .before .before .before .before .flags-fit .ensures, c .before .before .before .before .well-formed .ensures, c .before .before .before .well-formed2 .ensures, c .before .before .contains .ensures, c .before .contains2 .ensures)
+returns c = rw (c .before .before .before .before .flags-fit .ensures, c .before .before .before .well-formed .ensures, c .before .before .well-formed2 .ensures, c .before .contains .ensures, c .contains2 .ensures)
 
 pub views-sound-spec : {M : Type 1} → statement M
 views-sound-spec =

@@ -22,7 +22,7 @@ run-in-requires c κs = search needs
 
 returns : tie.Need-returns
 unfolding wordsFit
-returns c = rw (c .before .before .before .before .fit .ensures, c .before .given-fit .ensures, c .run-in .ensures .0, c .before .before .before .before .before .before .before .marks-in .ensures, c .before .before .before .before .before .before .before .before .slot-in .ensures .0)
+returns c = rw (c .before .before .fit .ensures, c .before .given-fit .ensures, c .run-in .ensures .0, c .before .before .before .marks-in .ensures, c .before .before .before .before .slot-in .ensures .0)
 
 pub words-fit-spec : {M : Type 1} → statement M
 words-fit-spec =
