@@ -1,5 +1,5 @@
 // What a step answers, and its number: the first of its checks that applies.
-// An answer's end-point has its last field written once more: beside a number that is written by itself it is copied apart from the message, and once less.
+// Each answer has its end-point's last field written once more, by itself: the compiler then keeps the end-point apart from the message after it, and copies it once less.
 ghost use mathlib.Core.Bool.{cond};
 ghost use mathlib.Core.Path.{_≡_};
 ghost use Rattle.endpoint.specs.Numbers.{refusedWith, declares as declaresOf, sends as sendsOf, gives as givesOf, installs as installsOf};

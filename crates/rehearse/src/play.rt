@@ -144,11 +144,14 @@ fn turn(
     command(e, made, c, line, f, areas, packets, rings, page, at)
 }
 
-pub(crate) fn play(script: &[u8]) {
-    let mut areas = [0u64; 32768];
-    let mut packets = [0u8; 1048576];
-    let mut rings = [0usize; 128];
-    let mut page = [0u8; 65536];
+// The areas, channels and page are all zero at first.
+pub(crate) fn play(
+    script: &[u8],
+    areas: &mut [u64; 32768],
+    packets: &mut [u8; 1048576],
+    rings: &mut [usize; 128],
+    page: &mut [u8; 65536],
+) {
     let mut at = 0usize;
     let first = EndPoint::fresh(0);
     let none = first.ep;
@@ -173,10 +176,10 @@ pub(crate) fn play(script: &[u8]) {
                 c,
                 line,
                 f,
-                &mut areas,
-                &mut packets,
-                &mut rings,
-                &mut page,
+                areas,
+                packets,
+                rings,
+                page,
                 &mut at,
             );
             let next = t.ep;
@@ -184,5 +187,5 @@ pub(crate) fn play(script: &[u8]) {
             made = t.made;
         }
     }
-    text::flush(&page, &mut at);
+    text::flush(page, &mut at);
 }
