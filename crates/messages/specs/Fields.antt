@@ -35,11 +35,11 @@ messageOf fs =
       index = getD fs 4 0;
     }
 
--- no number is too large for its field: 8 bits for kind, sets, sender, index and counts, 32 for ids and numbers, 64 for the word
 -- eight fields from this one on are below a bound
 abbrev pub narrowRow : List ℕ → ℕ → ℕ → Bool
 narrowRow fs at top = allBelow (λ n. ltb (getD fs (at + n) 0) top) 8
 
+-- no number is too large for its field: 8 bits for kind, sets, sender, index and counts, 32 for ids and numbers, 64 for the word
 unfoldable pub narrowStarts : List ℕ → Bool
 narrowStarts fs = narrowRow fs 8 (2 ^ 32)
 
