@@ -195,10 +195,10 @@ typedef struct nh_endpoint {
     nh_view membership;     /* the latest of the membership service               */
     nh_view heard[8];       /* by sender: the view that it announced              */
     nh_records records;
-    nh_slots slots;
-    nh_row forwarded[8];    /* by destination                                     */
     uint8_t received[8];    /* by sender: words in the view that it announced     */
+    nh_slots slots;
     uint8_t given[8];       /* by sender: words given out in the current view     */
+    nh_row forwarded[8];    /* by destination                                     */
     nh_change change;
     uint8_t me;             /* its own number                                     */
     uint8_t declared;       /* the declared set                                   */
@@ -279,10 +279,10 @@ NH_LAYOUT(offsetof(nh_endpoint, current) == 0);
 NH_LAYOUT(offsetof(nh_endpoint, membership) == 40);
 NH_LAYOUT(offsetof(nh_endpoint, heard) == 80);
 NH_LAYOUT(offsetof(nh_endpoint, records) == 400);
-NH_LAYOUT(offsetof(nh_endpoint, slots) == 2072);
-NH_LAYOUT(offsetof(nh_endpoint, forwarded) == 2760);
-NH_LAYOUT(offsetof(nh_endpoint, received) == 2824);
-NH_LAYOUT(offsetof(nh_endpoint, given) == 2832);
+NH_LAYOUT(offsetof(nh_endpoint, received) == 2072);
+NH_LAYOUT(offsetof(nh_endpoint, slots) == 2080);
+NH_LAYOUT(offsetof(nh_endpoint, given) == 2768);
+NH_LAYOUT(offsetof(nh_endpoint, forwarded) == 2776);
 NH_LAYOUT(offsetof(nh_endpoint, change) == 2840);
 NH_LAYOUT(offsetof(nh_endpoint, me) == 2848);
 NH_LAYOUT(offsetof(nh_endpoint, declared) == 2849);

@@ -27,7 +27,19 @@ pub(crate) fn limit(e: EndPoint, q: u8) -> u8
     own.cut.count(q)
 }
 
-// Whether the next word of q is beyond the cut.
+// Whether the next word of q is beyond the cut, with a change pending.
+fn past_cut(e: EndPoint, q: u8, next: u8) -> bool
+    requires { ⌜ (q < 8) × (next ≡ nextGiven e q) ⌝ }
+    requires pending { ⌜ e .change .pending ≡ 1 ⌝ }
+    ensures { λ r. ⌜ r ≡ beyondCut e q ⌝ }
+{
+    if !e.records.holds(e.me, e.change.number) {
+        return false;
+    }
+    limit(e, q) < next
+}
+
+// Whether it is beyond the cut. The rest stands apart: the end-point is copied for it, which is wanted only with a change pending.
 fn beyond_cut(e: EndPoint, q: u8, next: u8) -> bool
     requires { ⌜ (q < 8) × (next ≡ nextGiven e q) ⌝ }
     ensures { λ r. ⌜ r ≡ beyondCut e q ⌝ }
@@ -35,10 +47,7 @@ fn beyond_cut(e: EndPoint, q: u8, next: u8) -> bool
     if e.change.pending != 1 {
         return false;
     }
-    if !e.records.holds(e.me, e.change.number) {
-        return false;
-    }
-    limit(e, q) < next
+    past_cut(e, q, next)
 }
 
 // Where q's next word to give out stands.
@@ -80,11 +89,13 @@ impl EndPoint {
     {
         let ok = sound::sound(self);
         let p = give_plan(self, ok, area, q);
-        if p.number != 0 {
-            return answers::plain(self, p.number);
+        let mut given = self.given;
+        let mut word: u64 = 0;
+        if p.number == 0 {
+            given[q as usize] = p.index;
+            word = parts::word_at(area, slots::place(p.slot, q, p.index));
         }
-        let word = parts::word_at(area, slots::place(p.slot, q, p.index));
-        self.given[q as usize] = p.index;
-        answers::gives(self, word)
+        self.given = given;
+        answers::gives(self, p.number, word)
     }
 }

@@ -14,6 +14,7 @@ use Rattle.below.proofs.Tests.{clash, is-not, not-is}
 use Rattle.views.specs.declared.View.{View}
 use Rattle.views.specs.Views.{initial, viewOk, same}
 use Rattle.slots.proofs.Elements.{any}
+use Rattle.slots.proofs.Current.{good-same}
 use Rattle.slots.specs.declared.Tag.{Tag}
 use Rattle.slots.specs.Slots.{slotIn}
 use Rattle.slots.specs.Spent.{spentBy}
@@ -50,35 +51,53 @@ module _ (p : ℕ) (current : View) (latest : ℕ) (pending : Bool) (tags : List
       (λ q. eqb q p || otherFits p current latest pending tags (getD heard q (initial q)) (getD received q 0)) 8
       (λ q l. ap (λ v. eqb q p || otherFits p current latest pending tags v (getD received q 0)) (any heard q pastView (initial q) (omega arith)))
 
--- ---- one other sender, as the loop asks: the slots are searched only for a view that is neither initial, current nor spent
-
-or-yet : (a b c d : Bool) → (a || (b || c)) ≡ true → true ≡ (a || (b || (c || d)))
-or-yet true b c d t = refl
-or-yet false true c d t = refl
-or-yet false false true d t = refl
-or-yet false false false d t = clash t refl
-
-or-last : (a b c d : Bool) → (a || (b || c)) ≡ false → d ≡ (a || (b || (c || d)))
-or-last true b c d t = clash refl t
-or-last false true c d t = clash refl t
-or-last false false true d t = clash refl t
-or-last false false false d t = refl
+-- ---- one other sender, as the loop asks: a current view is as good as the current one; the slots are searched only for a view that is neither initial, current nor spent
 
 module _ (p : ℕ) (current : View) (latest : ℕ) (pending : Bool) (tags : List Tag) (v : View) where
-  abbrev slotless : Bool
-  slotless = eqb (v .id) 0 || (same v current || spentBy p current latest pending v)
+  -- what is asked of the announced view
+  abbrev viewFits : Bool
+  viewFits = viewOk v && placed p current latest pending tags v
 
-  pub placed-yes : (b : Bool) → b ≡ slotless → not b ≡ false → b ≡ placed p current latest pending tags v
-  unfolding placed
-  placed-yes b e t =
-      is-not b t ∙ or-yet (eqb (v .id) 0) (same v current) (spentBy p current latest pending v) (ltb (slotIn tags v) 4) (sym e ∙ is-not b t)
+  -- b is what comparing the views gave
+  module _ (b : Bool) (e : b ≡ same v current) where
+    pub fits-current : not b ≡ false → (good : Bool) → good ≡ viewOk current → good ≡ viewFits
+    unfolding placed
+    fits-current t good g =
+        rw (← good-same v current b e (is-not b t) good g, ← e, is-not b t) (go good (eqb (v .id) 0))
+      where
+        go : (g i : Bool) → g ≡ (g && (i || true))
+        go true true = refl
+        go true false = refl
+        go false i = refl
 
-  pub placed-no : (b : Bool) (s : ℕ) → b ≡ slotless → not b ≡ true → s ≡ slotIn tags v → ltb s 4 ≡ placed p current latest pending tags v
-  unfolding placed
-  placed-no b s e t f =
-      ap (λ k. ltb k 4) f ∙ or-last (eqb (v .id) 0) (same v current) (spentBy p current latest pending v) (ltb (slotIn tags v) 4) (sym e ∙ not-is b t)
+    -- w is what testing the view gave, i whether it is initial or spent
+    module _ (t : not b ≡ true) (w : Bool) (f : w ≡ viewOk v) (i : Bool) (g : i ≡ (eqb (v .id) 0 || spentBy p current latest pending v)) where
+      pub fits-idle : not i ≡ false → w ≡ viewFits
+      unfolding placed
+      fits-idle h = rw (← f, ← e, not-is b t) (go w (eqb (v .id) 0) (spentBy p current latest pending v) (ltb (slotIn tags v) 4) (sym g ∙ is-not i h))
+        where
+          go : (w z s x : Bool) → (z || s) ≡ true → w ≡ (w && (z || (s || x)))
+          go false z s x k = refl
+          go true true s x k = refl
+          go true false true x k = refl
+          go true false false x k = clash k refl
 
-  pub other-is : (q count : ℕ) (formed x : Bool) → formed ≡ viewOk v → x ≡ placed p current latest pending tags v
-      → (eqb q p || (formed && (leb count 128 && x))) ≡ (eqb q p || otherFits p current latest pending tags v count)
+      pub fits-slot : (s : ℕ) → not i ≡ true → s ≡ slotIn tags v → (w && ltb s 4) ≡ viewFits
+      unfolding placed
+      fits-slot s h k = rw (← f, ← e, not-is b t, k) (go w (eqb (v .id) 0) (spentBy p current latest pending v) (ltb (slotIn tags v) 4) (sym g ∙ not-is i h))
+        where
+          go : (w z s x : Bool) → (z || s) ≡ false → (w && x) ≡ (w && (z || (s || x)))
+          go w true s x k = clash refl k
+          go w false true x k = clash refl k
+          go w false false x k = refl
+
+  pub other-is : (q count : ℕ) (x : Bool) → x ≡ viewFits → (eqb q p || (x && leb count 128)) ≡ (eqb q p || otherFits p current latest pending tags v count)
   unfolding otherFits
-  other-is q count formed x a b = rw (a, b)
+  other-is q count x e = rw e (ap (λ k. eqb q p || k) (go (viewOk v) (placed p current latest pending tags v) (leb count 128)))
+    where
+      go : (a b c : Bool) → ((a && b) && c) ≡ (a && (c && b))
+      go true true true = refl
+      go true true false = refl
+      go true false true = refl
+      go true false false = refl
+      go false b c = refl

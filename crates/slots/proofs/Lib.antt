@@ -7,4 +7,5 @@ pub mod Places
 pub mod Tags
 pub mod Sound
 pub mod Elements
+pub mod Current
 pub mod Branches

@@ -13,19 +13,26 @@ use crate::spending::spent;
 use marks::Marks;
 use views::View;
 
-// Of one slot: its tag and its marks.
-fn slot_fits(p: u8, current: View, latest: u32, pending: bool, t: Tag, m: Marks) -> bool
+// Of one slot: its tag and its marks. A view that is the current one is as good as it, and not spent.
+fn slot_fits(good: bool, p: u8, current: View, latest: u32, pending: bool, t: Tag, m: Marks) -> bool
+    requires { ⌜ good ≡ viewOk current ⌝ }
     ensures { λ r. ⌜ r ≡ (leb (t .used) 1 && cond (eqb (t .used) 1) (viewOk (t .view) && (not (spentBy p current latest pending (t .view)) && noGapIn m p)) true) ⌝ }
 {
     if t.used != 1 {
         return t.used == 0;
     }
     let view = t.view;
-    if !view.well_formed() {
-        return false;
-    }
-    if spent(p, current, latest, pending, view) {
-        return false;
+    if view.same(current) {
+        if !good {
+            return false;
+        }
+    } else {
+        if !view.well_formed() {
+            return false;
+        }
+        if spent(p, current, latest, pending, view) {
+            return false;
+        }
     }
     marks::no_gap_in(m, p)
 }
@@ -66,9 +73,11 @@ impl Slots {
     pub fn fit(self, p: u8, current: View, latest: u32, pending: bool) -> bool
         ensures { λ b. ⌜ b ≡ slotsFit p current latest pending self ⌝ }
     {
+        let good = current.well_formed();
         let mut s: u8 = 0;
         while s < 4 {
             if !slot_fits(
+                good,
                 p,
                 current,
                 latest,

@@ -1,2 +1,3 @@
 pub mod Members
 pub mod Sameness
+pub mod Words

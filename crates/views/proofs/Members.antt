@@ -1,4 +1,4 @@
--- The laws of sets: no member above 7; `within` as the two bytes joined; `size` as the byte's count of ones; a count against a member's bit;
+-- The laws of sets: no member above 7; `within` as the two bytes joined; `size` as the byte's count of ones;
 -- the members of a set that is made; `only`, `joined`, `less` as operations on bits; the needs of a loop that makes a set. Assumes nothing.
 use Prim.Native.Nat.{ℕ, zero, suc, _+_, _-_, _*_, _/_, _%_, _^_, _≤_, _<_, min}
 use native.Mathlib.Nat.{eq-or-lt-of-le, le-antisymm, lt-of-lt-of-le, pow-suc}
@@ -6,11 +6,11 @@ use native.Mathlib.Omega.{arith}
 use mathlib.Core.Bool.{Bool, true, false, not, _&&_, _||_, cond, or-false}
 use mathlib.Core.Logic.{⊎-elim}
 use mathlib.Core.Path.{_≡_, refl, sym, ap, _∙_}
-use lib.Dec.{eqb, leb}
+use lib.Dec.{eqb}
 use lib.Bits.{bitAnd, bitOr, and-lt, and-shr, and-step, or-lt, or-shifted-r}
 use lib.Count.{ones}
 use lib.Pow.{pow-lt, pow-mono, shl-exact}
-use borrow.Author.Tests.{eq-eqb, ne-eqb, eqb-true, lt-leb, lt-ltb, le-ltb}
+use borrow.Author.Tests.{eq-eqb, ne-eqb, eqb-true, lt-ltb, le-ltb}
 use Rattle.below.specs.Below.{foldBelow}
 use Rattle.below.specs.Bits.{bit}
 use Rattle.below.proofs.Bits.{bit-above, bit-none, bit-next, bit-first, bit-pow, bit-or, bits-same, count-ones}
@@ -18,7 +18,6 @@ use Rattle.below.proofs.Lists.{fold-none, fold-more}
 use Rattle.below.proofs.Tests.{both, side}
 use Rattle.below.proofs.All.{all-each, all-of}
 use Rattle.views.specs.Sets.{has, within, size, only, setOf, joined, less, withIf}
-use Rattle.views.specs.Cuts.{countFits}
 
 pub has-above : (s n : ℕ) → s < 256 → 8 ≤ n → has s n ≡ false
 unfolding has
@@ -54,13 +53,6 @@ within-or a b p q =
 pub size-ones : (s : ℕ) → s < 256 → ones s ≡ size s
 unfolding size has
 size-ones s h = count-ones 8 s h
-
--- the most that a count may be, from a member's bit b
-pub most-fits : (count b : ℕ) → b < 2 → leb count (b * 128) ≡ countFits (eqb b 1) count
-most-fits zero zero l = refl
-most-fits (suc n) zero l = lt-leb (suc n) 0 (omega arith) ∙ sym (ne-eqb (suc n) 0 (λ e. omega arith))
-most-fits n (suc zero) l = refl
-most-fits n (suc (suc b)) l = absurd (omega arith)
 
 -- ---- the bits that two numbers share, and those that a number has not
 

@@ -1,6 +1,6 @@
 // Tests on views.
 ghost use mathlib.Core.Path.{_≡_};
-ghost use Prim.Native.Nat.{_≤_};
+ghost use Prim.Native.Nat.{_<_, _≤_};
 ghost use lib.ListN.{getD};
 ghost use Rattle.views.specs.Sets.{has};
 ghost use Rattle.views.specs.Views.{noView, initial as initialOf, startOf, startFits, allZero, startsFit, startsSame, viewOk, same as sameOf};
@@ -21,23 +21,22 @@ pub fn starts_zero(starts: &[u32; 8]) -> bool
     ok
 }
 
-fn start_fits(set: u8, n: u8, start: u32) -> bool
+// The set comes as wide as a start number: all eight tests are then of one width.
+fn start_fits(set: u32, n: u8, start: u32) -> bool
+    requires { ⌜ n < 8 ⌝ }
     ensures { λ r. ⌜ r ≡ startFits (has set n) start ⌝ }
 {
-    if sets::contains(set, n) {
-        start != 0
-    } else {
-        start == 0
-    }
+    (start != 0) == ((set >> n) % 2 == 1)
 }
 
 fn starts_fit(set: u8, starts: &[u32; 8]) -> bool
     ensures { λ r. ⌜ r ≡ startsFit set (now (starts .entry)) ⌝ }
 {
     let mut ok = true;
+    let wide = set as u32;
     let mut n: u8 = 0;
     while n < 8 {
-        let f = start_fits(set, n, starts[n as usize]);
+        let f = start_fits(wide, n, starts[n as usize]);
         ok = ok & f;
         n += 1;
     }

@@ -38,7 +38,7 @@ same-length : tie.Need-same-length
 same-length c = search needs
 
 returns-2 : tie.Need-returns-2
-returns-2 c = let y : length (c .before .before .before .before .before .before .before .before .before .before .before .before .args .t1 .given) ≡ 8 = let h = c .before .before .before .before .before .before .before .before .before .before .before .before .good .0 .1 .1 .1 .1 .1 .1 .1 .1 .1 .0 in search (needs, h) in (batch-done (c .before .before .before .before .before .before .before .before .before .before .before .before .args .t1) (c .before .before .before .before .before .before .before .before .before .before .before .before .args .area .now) (c .before .before .before .before .before .before .before .before .before .before .before .before .args .q) (c .before .before .before .before .before .before .before .before .batch-plan .result) (c .before .before .before .before .before .before .before .before .batch-plan .ensures) (c .before .before .before .before .before .before .if1 .left) (length (c .before .before .before .before .before .before .before .before .before .before .before .before .args .out .now)) (c .before .before .before .before .room-for .result) (c .before .before .before .before .room-for .ensures) y, c .before .before .copy-words .ensures ∙ batch-copied (c .before .before .before .before .before .before .before .before .before .before .before .before .args .t1) (c .before .before .before .before .before .before .before .before .before .before .before .before .args .area .now) (c .before .before .before .before .before .before .before .before .before .before .before .before .args .q) (c .before .before .before .before .before .before .before .before .batch-plan .result) (c .before .before .before .before .before .before .before .before .batch-plan .ensures) (c .before .before .before .before .before .before .if1 .left) (c .before .before .before .before .before .before .before .before .before .before .before .before .args .out .now) (c .before .before .before .before .room-for .result) (c .before .before .before .before .room-for .ensures) y)
+returns-2 c = let y : length (c .before .before .before .before .before .before .before .before .before .before .before .before .args .t1 .given) ≡ 8 = let h = c .before .before .before .before .before .before .before .before .before .before .before .before .good .0 .1 .1 .1 .1 .1 .1 .1 .1 .0 in search (needs, h) in (batch-done (c .before .before .before .before .before .before .before .before .before .before .before .before .args .t1) (c .before .before .before .before .before .before .before .before .before .before .before .before .args .area .now) (c .before .before .before .before .before .before .before .before .before .before .before .before .args .q) (c .before .before .before .before .before .before .before .before .batch-plan .result) (c .before .before .before .before .before .before .before .before .batch-plan .ensures) (c .before .before .before .before .before .before .if1 .left) (length (c .before .before .before .before .before .before .before .before .before .before .before .before .args .out .now)) (c .before .before .before .before .room-for .result) (c .before .before .before .before .room-for .ensures) y, c .before .before .copy-words .ensures ∙ batch-copied (c .before .before .before .before .before .before .before .before .before .before .before .before .args .t1) (c .before .before .before .before .before .before .before .before .before .before .before .before .args .area .now) (c .before .before .before .before .before .before .before .before .before .before .before .before .args .q) (c .before .before .before .before .before .before .before .before .batch-plan .result) (c .before .before .before .before .before .before .before .before .batch-plan .ensures) (c .before .before .before .before .before .before .if1 .left) (c .before .before .before .before .before .before .before .before .before .before .before .before .args .out .now) (c .before .before .before .before .room-for .result) (c .before .before .before .before .room-for .ensures) y)
 
 pub batch-spec : {M : Type 1} → statement M
 batch-spec =

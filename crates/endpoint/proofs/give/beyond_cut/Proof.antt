@@ -1,8 +1,7 @@
--- `beyond_cut` meets its contract, by the branch that was taken. Assumes nothing.
-use Rattle.below.proofs.Tests.{told, told-so, told-not, pick-yes, pick-no, and-yes, and-no}
+-- `beyond_cut` meets its contract: with no change pending nothing is beyond it. Assumes nothing.
+use Rattle.below.proofs.Tests.{and-no}
 use Rattle.endpoint.specs.Give.{beyondCut}
-use borrow.Author.Tests.{eq-eqb, ne-eqb}
-use mathlib.Core.Path.{_≡_, refl, sym, ap, _∙_}
+use borrow.Author.Tests.{ne-eqb}
 use borrow.Author.Needs.{needs}
 use Rattle.endpoint.proofs.give.beyond_cut.Statement.{statement}
 use Rattle.endpoint.proofs.give.beyond_cut.Tie as tie
@@ -11,19 +10,11 @@ returns : tie.Need-returns
 unfolding beyondCut
 returns c = and-no _ _ (ne-eqb _ 1 (c .if1 .taken))
 
-holds-requires : tie.Need-holds-requires
-holds-requires c κs = search needs
+past-cut-requires : tie.Need-past-cut-requires
+past-cut-requires c κs = (c .before .before .pre, c .if1 .left)
 
 returns-2 : tie.Need-returns-2
-unfolding beyondCut
-returns-2 c = and-yes _ _ _ (eq-eqb _ 1 (c .before .before .if1 .left)) (and-no _ _ (told-not _ _ (c .if2 .taken) (c .before .holds .ensures)))
-
-limit-requires : tie.Need-limit-requires
-limit-requires c κs = c .before .before .before .before .pre .0
-
-returns-3 : tie.Need-returns-3
-unfolding beyondCut
-returns-3 c = and-yes _ _ _ (eq-eqb _ 1 (c .before .before .before .if1 .left)) (and-yes _ _ _ (told-so _ _ (c .before .if2 .left) (c .before .before .holds .ensures)) (rw (c .limit .ensures, c .before .before .before .before .before .pre .1) refl))
+returns-2 c = c .past-cut .ensures
 
 pub beyond-cut-spec : {M : Type 1} → statement M
-beyond-cut-spec = tie.close (tie.spec returns holds-requires returns-2 limit-requires returns-3)
+beyond-cut-spec = tie.close (tie.spec returns past-cut-requires returns-2)

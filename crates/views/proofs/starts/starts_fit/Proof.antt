@@ -11,10 +11,10 @@ use Rattle.views.proofs.starts.starts_fit.Statement.{statement}
 use Rattle.views.proofs.starts.starts_fit.Tie as tie
 
 abbrev Inv-loop : tie.InvT-loop
-Inv-loop set starts ok₀ n₀ ok n = (n ≤ 8) × (ok ≡ allBelow (λ k. startFits (has set k) (getD starts k 0)) n)
+Inv-loop set starts ok₀ wide n₀ ok n = (n ≤ 8) × (ok ≡ allBelow (λ k. startFits (has set k) (getD starts k 0)) n)
 
 abbrev μ-loop : tie.MeasureT-loop
-μ-loop set starts ok₀ n₀ ok n = 8 - n
+μ-loop set starts ok₀ wide n₀ ok n = 8 - n
 
 loop-holds : tie.Need-loop-holds Inv-loop μ-loop
 loop-holds c = search (needs, alls)
