@@ -189,7 +189,7 @@ fn take_forward(mut e: EndPoint, area: &mut [u64], q: u8, m: Message) -> Answer
 }
 
 impl EndPoint {
-    // Receive from q. A refused message stays at the head of its channel.
+    // Receive from q. A refused message stays at the head of its channel. Words, the most frequent kind, are tested for first.
     pub fn receive(self, area: &mut [u64], q: u8, m: Message) -> Answer
         ensures { λ r. ⌜ (r ≡ step (receiveOf q m) self (now (area .entry))) × (now (area .exit) ≡ areaAfter (receiveOf q m) self (now (area .entry))) ⌝ }
     {
@@ -197,11 +197,11 @@ impl EndPoint {
         if unreceivable(self, ok, area, q, m) {
             return answers::plain(self, 1);
         }
-        if m.kind == 1 {
-            return take_view(self, q, m.view);
-        }
         if m.kind == 2 {
             return take_word(self, area, q, m.word);
+        }
+        if m.kind == 1 {
+            return take_view(self, q, m.view);
         }
         if m.kind == 3 {
             return take_sync(self, q, m);

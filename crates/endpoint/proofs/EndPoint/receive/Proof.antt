@@ -22,35 +22,35 @@ returns c =
     let a = c .before .before .before .before .before .before .args in
     receive-no (a .self) (a .area .now) (a .q) (a .m) (c .plain .result) (sym (c .before .before .unreceivable .ensures) ∙ c .before .if1 .taken) (c .plain .ensures)
 
-take-view-requires : tie.Need-take-view-requires
-take-view-requires c κs =
-    let a = c .before .before .before .before .before .before .before .args in
-    let u = passes (a .self) (a .area .now) (a .q) (a .m) (c .before .before .before .unreceivable .result) (c .before .before .before .unreceivable .ensures) (c .before .before .if1 .left) in
-    receivable (a .self) (a .area .now) (a .q) (a .m) u .low
+take-word-requires : tie.Need-take-word-requires
+take-word-requires c κs =
+    let a = c .before .before .before .before .before .before .before .before .args in
+    let u = passes (a .self) (a .area .now) (a .q) (a .m) (c .before .before .before .before .unreceivable .result) (c .before .before .before .before .unreceivable .ensures) (c .before .before .before .if1 .left) in
+    receivable (a .self) (a .area .now) (a .q) (a .m) u
 
 same-length-2 : tie.Need-same-length-2
 same-length-2 c = search needs
 
 returns-2 : tie.Need-returns-2
 returns-2 c =
-    let a = c .before .before .before .before .before .before .before .before .args in
-    let u = passes (a .self) (a .area .now) (a .q) (a .m) (c .before .before .before .before .unreceivable .result) (c .before .before .before .before .unreceivable .ensures) (c .before .before .before .if1 .left) in
-    receive-view (a .self) (a .area .now) (a .q) (a .m) (c .take-view .result) u (c .before .if2 .taken) (c .take-view .ensures)
+    let a = c .before .before .before .before .before .before .before .before .before .before .before .args in
+    let u = passes (a .self) (a .area .now) (a .q) (a .m) (c .before .before .before .before .before .before .before .unreceivable .result) (c .before .before .before .before .before .before .before .unreceivable .ensures) (c .before .before .before .before .before .before .if1 .left) in
+    receive-word (a .self) (a .area .now) (a .q) (a .m) (c .before .before .take-word .result) u _ (c .before .before .before .before .if2 .taken) (c .before .before .take-word .ensures .0) (c .before .before .take-word .ensures .1)
 
-take-word-requires : tie.Need-take-word-requires
-take-word-requires c κs =
-    let a = c .before .before .before .before .before .before .before .before .before .before .args in
-    let u = passes (a .self) (a .area .now) (a .q) (a .m) (c .before .before .before .before .before .before .unreceivable .result) (c .before .before .before .before .before .before .unreceivable .ensures) (c .before .before .before .before .before .if1 .left) in
-    receivable (a .self) (a .area .now) (a .q) (a .m) u
+take-view-requires : tie.Need-take-view-requires
+take-view-requires c κs =
+    let a = c .before .before .before .before .before .before .before .before .before .args in
+    let u = passes (a .self) (a .area .now) (a .q) (a .m) (c .before .before .before .before .before .unreceivable .result) (c .before .before .before .before .before .unreceivable .ensures) (c .before .before .before .before .if1 .left) in
+    receivable (a .self) (a .area .now) (a .q) (a .m) u .low
 
 same-length-3 : tie.Need-same-length-3
 same-length-3 c = search needs
 
 returns-3 : tie.Need-returns-3
 returns-3 c =
-    let a = c .before .before .before .before .before .before .before .before .before .before .before .before .before .args in
-    let u = passes (a .self) (a .area .now) (a .q) (a .m) (c .before .before .before .before .before .before .before .before .before .unreceivable .result) (c .before .before .before .before .before .before .before .before .before .unreceivable .ensures) (c .before .before .before .before .before .before .before .before .if1 .left) in
-    receive-word (a .self) (a .area .now) (a .q) (a .m) (c .before .before .take-word .result) u _ (c .before .before .before .before .if3 .taken) (c .before .before .take-word .ensures .0) (c .before .before .take-word .ensures .1)
+    let a = c .before .before .before .before .before .before .before .before .before .before .args in
+    let u = passes (a .self) (a .area .now) (a .q) (a .m) (c .before .before .before .before .before .before .unreceivable .result) (c .before .before .before .before .before .before .unreceivable .ensures) (c .before .before .before .before .before .if1 .left) in
+    receive-view (a .self) (a .area .now) (a .q) (a .m) (c .take-view .result) u (c .before .if3 .taken) (c .take-view .ensures)
 
 take-sync-requires : tie.Need-take-sync-requires
 take-sync-requires c κs = search needs
@@ -68,7 +68,7 @@ take-forward-requires : tie.Need-take-forward-requires
 take-forward-requires c κs =
     let a = c .before .before .before .before .before .before .before .before .before .before .before .before .args in
     let u = passes (a .self) (a .area .now) (a .q) (a .m) (c .before .before .before .before .before .before .before .before .unreceivable .result) (c .before .before .before .before .before .before .before .before .unreceivable .ensures) (c .before .before .before .before .before .before .before .if1 .left) in
-    (u, (kind-four (a .self) (a .area .now) (a .q) (a .m) u (c .before .before .before .before .before .if2 .left) (c .before .before .before .if3 .left) (c .before .if4 .left)))
+    (u, (kind-four (a .self) (a .area .now) (a .q) (a .m) u (c .before .before .before .if3 .left) (c .before .before .before .before .before .if2 .left) (c .before .if4 .left)))
 
 same-length-5 : tie.Need-same-length-5
 same-length-5 c = search needs
@@ -77,7 +77,7 @@ returns-5 : tie.Need-returns-5
 returns-5 c =
     let a = c .before .before .before .before .before .before .before .before .before .before .before .before .before .before .before .args in
     let u = passes (a .self) (a .area .now) (a .q) (a .m) (c .before .before .before .before .before .before .before .before .before .before .before .unreceivable .result) (c .before .before .before .before .before .before .before .before .before .before .before .unreceivable .ensures) (c .before .before .before .before .before .before .before .before .before .before .if1 .left) in
-    receive-forward (a .self) (a .area .now) (a .q) (a .m) (c .before .before .take-forward .result) u _ (kind-four (a .self) (a .area .now) (a .q) (a .m) u (c .before .before .before .before .before .before .before .before .if2 .left) (c .before .before .before .before .before .before .if3 .left) (c .before .before .before .before .if4 .left)) (c .before .before .take-forward .ensures .0) (c .before .before .take-forward .ensures .1)
+    receive-forward (a .self) (a .area .now) (a .q) (a .m) (c .before .before .take-forward .result) u _ (kind-four (a .self) (a .area .now) (a .q) (a .m) u (c .before .before .before .before .before .before .if3 .left) (c .before .before .before .before .before .before .before .before .if2 .left) (c .before .before .before .before .if4 .left)) (c .before .before .take-forward .ensures .0) (c .before .before .take-forward .ensures .1)
 
 pub receive-spec : {M : Type 1} → statement M
 receive-spec =
@@ -87,10 +87,10 @@ receive-spec =
     plain-requires
     same-length
     returns
-    take-view-requires
+    take-word-requires
     same-length-2
     returns-2
-    take-word-requires
+    take-view-requires
     same-length-3
     returns-3
     take-sync-requires
