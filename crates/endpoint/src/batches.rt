@@ -10,6 +10,7 @@ ghost use Rattle.endpoint.specs.Sound.{sound as soundOf};
 use crate::Batch;
 use crate::EndPoint;
 use crate::Plan;
+use crate::answers;
 use crate::give;
 use crate::sound;
 use views::sets;
@@ -105,21 +106,20 @@ impl EndPoint {
     {
         let ok = sound::sound(self);
         let p = batch_plan(self, ok, area, q);
-        if p.number != 0 {
-            return Batch {
-                ep: self,
-                count: 0,
-                number: p.number,
-            };
+        let mut all = self.given;
+        let mut count: u8 = 0;
+        if p.number == 0 {
+            let given = all[q as usize];
+            count = room_for(given, p.index, out.len());
+            copy_words(area, p.slot, q, given, count, out);
+            all[q as usize] = given + count;
         }
-        let given = self.given[q as usize];
-        let count = room_for(given, p.index, out.len());
-        copy_words(area, p.slot, q, given, count, out);
-        self.given[q as usize] = given + count;
+        self.given = all;
+        let ep = answers::apart(self);
         Batch {
-            ep: self,
+            ep,
             count: count as u64,
-            number: 0,
+            number: p.number,
         }
     }
 }

@@ -1,6 +1,7 @@
 -- `batch` meets its contract: refused by its plan, or so many words copied. Assumes nothing.
 use native.Mathlib.Omega.{arith}
-use mathlib.Core.Path.{_≡_, _∙_}
+use mathlib.Core.Logic.{⊎-elim}
+use mathlib.Core.Path.{_≡_, ap, _∙_}
 use lib.ListN.{length}
 use Rattle.endpoint.proofs.Batching.{batch-refused, batch-kept, plan-fit, slot-fits, words-fit, room-fits, batch-done, batch-copied}
 use borrow.Author.Needs.{needs}
@@ -13,44 +14,74 @@ sound-requires c κs = search needs
 batch-plan-requires : tie.Need-batch-plan-requires
 batch-plan-requires c κs = c .sound .ensures
 
-returns : tie.Need-returns
-returns c = (batch-refused (c .before .before .before .before .before .before .args .t1) (c .before .before .before .before .before .before .args .area .now) (c .before .before .before .before .before .before .args .q) (c .before .before .batch-plan .result) (c .before .before .batch-plan .ensures) (c .if1 .taken) (length (c .before .before .before .before .before .before .args .out .now)), batch-kept (c .before .before .before .before .before .before .args .t1) (c .before .before .before .before .before .before .args .area .now) (c .before .before .before .before .before .before .args .q) (c .before .before .batch-plan .result) (c .before .before .batch-plan .ensures) (c .if1 .taken) (c .before .before .before .before .before .before .args .out .now))
-
-element-copy-out-given : tie.Need-element-copy-out-given
-element-copy-out-given c = let f = plan-fit (c .before .before .before .before .before .before .args .t1) (c .before .before .before .before .before .before .args .area .now) (c .before .before .before .before .before .before .args .q) (c .before .before .batch-plan .result) (c .before .before .batch-plan .ensures) (c .if1 .left) in omega (arith, f .low)
+array-read-given : tie.Need-array-read-given
+array-read-given c =
+    let a = c .before .before .before .before .before .before .before .args in
+    let p = c .before .before .before .batch-plan in
+    let z = c .if1 .taken in
+    plan-fit (a .self) (a .area .now) (a .q) (p .result) (p .ensures) z .low
 
 room-for-requires : tie.Need-room-for-requires
 room-for-requires c κs = search needs
 
 copy-words-requires : tie.Need-copy-words-requires
-copy-words-requires c κs = let f = plan-fit (c .before .before .before .before .before .before .before .before .before .args .t1) (c .before .before .before .before .before .before .before .before .before .args .area .now) (c .before .before .before .before .before .before .before .before .before .args .q) (c .before .before .before .before .before .batch-plan .result) (c .before .before .before .before .before .batch-plan .ensures) (c .before .before .before .if1 .left) in (f .whole, (slot-fits (c .before .before .before .before .before .before .before .before .before .args .t1) (c .before .before .before .before .before .before .before .before .before .args .area .now) (c .before .before .before .before .before .before .before .before .before .args .q) (c .before .before .before .before .before .batch-plan .result) (c .before .before .before .before .before .batch-plan .ensures) (c .before .before .before .if1 .left), (f .low, (words-fit (c .before .before .before .before .before .before .before .before .before .args .t1) (c .before .before .before .before .before .before .before .before .before .args .area .now) (c .before .before .before .before .before .before .before .before .before .args .q) (c .before .before .before .before .before .batch-plan .result) (c .before .before .before .before .before .batch-plan .ensures) (c .before .before .before .if1 .left) (length (c .before .before .before .before .before .before .before .before .before .args .out .now)) (c .before .room-for .result) (c .before .room-for .ensures), room-fits (c .before .before .before .before .before .before .before .before .before .args .t1) (c .before .before .before .before .before .before .before .before .before .args .area .now) (c .before .before .before .before .before .before .before .before .before .args .q) (c .before .before .before .before .before .batch-plan .result) (c .before .before .before .before .before .batch-plan .ensures) (c .before .before .before .if1 .left) (length (c .before .before .before .before .before .before .before .before .before .args .out .now)) (c .before .room-for .result) (c .before .room-for .ensures)))))
+copy-words-requires c κs =
+    let a = c .before .before .before .before .before .before .before .before .before .args in
+    let p = c .before .before .before .before .before .batch-plan in
+    let z = c .before .before .if1 .taken in
+    let r = c .before .room-for in
+    let n = length (a .out .now) in
+    let f = plan-fit (a .self) (a .area .now) (a .q) (p .result) (p .ensures) z in
+    (f .whole, (slot-fits (a .self) (a .area .now) (a .q) (p .result) (p .ensures) z, (f .low, (words-fit (a .self) (a .area .now) (a .q) (p .result) (p .ensures) z n (r .result) (r .ensures), room-fits (a .self) (a .area .now) (a .q) (p .result) (p .ensures) z n (r .result) (r .ensures)))))
 
-add-self : tie.Need-add-self
-add-self c = omega (arith, words-fit (c .before .before .before .before .before .before .before .before .before .before .before .before .args .t1) (c .before .before .before .before .before .before .before .before .before .before .before .before .args .area .now) (c .before .before .before .before .before .before .before .before .before .before .before .before .args .q) (c .before .before .before .before .before .before .before .before .batch-plan .result) (c .before .before .before .before .before .before .before .before .batch-plan .ensures) (c .before .before .before .before .before .before .if1 .left) (length (c .before .before .before .before .before .before .before .before .before .before .before .before .args .out .now)) (c .before .before .before .before .room-for .result) (c .before .before .before .before .room-for .ensures))
+add-all : tie.Need-add-all
+add-all c =
+    let a = c .before .before .before .before .before .before .before .before .before .before .before .before .args in
+    let p = c .before .before .before .before .before .before .before .before .batch-plan in
+    let z = c .before .before .before .before .before .if1 .taken in
+    let r = c .before .before .before .before .room-for in
+    omega (arith, words-fit (a .self) (a .area .now) (a .q) (p .result) (p .ensures) z (length (a .out .now)) (r .result) (r .ensures))
 
-element-write-self : tie.Need-element-write-self
-element-write-self c = let f = plan-fit (c .before .before .before .before .before .before .before .before .before .before .before .before .args .t1) (c .before .before .before .before .before .before .before .before .before .before .before .before .args .area .now) (c .before .before .before .before .before .before .before .before .before .before .before .before .args .q) (c .before .before .before .before .before .before .before .before .batch-plan .result) (c .before .before .before .before .before .before .before .before .batch-plan .ensures) (c .before .before .before .before .before .before .if1 .left) in omega (arith, f .low)
+array-write-all : tie.Need-array-write-all
+array-write-all c =
+    let a = c .before .before .before .before .before .before .before .before .before .before .before .before .args in
+    let p = c .before .before .before .before .before .before .before .before .batch-plan in
+    let z = c .before .before .before .before .before .if1 .taken in
+    plan-fit (a .self) (a .area .now) (a .q) (p .result) (p .ensures) z .low
 
-cast-t22 : tie.Need-cast-t22
-cast-t22 c = search needs
+apart-requires : tie.Need-apart-requires
+apart-requires c κs = search needs
 
 same-length : tie.Need-same-length
-same-length c = search needs
+same-length c = ⊎-elim (λ w. let h = ap length (w .6) in search needs) (λ w. ap length (w .1)) (c .before .before .if1 .came)
 
-returns-2 : tie.Need-returns-2
-returns-2 c = let y : length (c .before .before .before .before .before .before .before .before .before .before .before .before .args .t1 .given) ≡ 8 = let h = c .before .before .before .before .before .before .before .before .before .before .before .before .good .0 .1 .1 .1 .1 .1 .1 .1 .1 .0 in search (needs, h) in (batch-done (c .before .before .before .before .before .before .before .before .before .before .before .before .args .t1) (c .before .before .before .before .before .before .before .before .before .before .before .before .args .area .now) (c .before .before .before .before .before .before .before .before .before .before .before .before .args .q) (c .before .before .before .before .before .before .before .before .batch-plan .result) (c .before .before .before .before .before .before .before .before .batch-plan .ensures) (c .before .before .before .before .before .before .if1 .left) (length (c .before .before .before .before .before .before .before .before .before .before .before .before .args .out .now)) (c .before .before .before .before .room-for .result) (c .before .before .before .before .room-for .ensures) y, c .before .before .copy-words .ensures ∙ batch-copied (c .before .before .before .before .before .before .before .before .before .before .before .before .args .t1) (c .before .before .before .before .before .before .before .before .before .before .before .before .args .area .now) (c .before .before .before .before .before .before .before .before .before .before .before .before .args .q) (c .before .before .before .before .before .before .before .before .batch-plan .result) (c .before .before .before .before .before .before .before .before .batch-plan .ensures) (c .before .before .before .before .before .before .if1 .left) (c .before .before .before .before .before .before .before .before .before .before .before .before .args .out .now) (c .before .before .before .before .room-for .result) (c .before .before .before .before .room-for .ensures) y)
+returns : tie.Need-returns
+returns c =
+    let a = c .before .before .before .before .before .before .before .before .before .args in
+    let p = c .before .before .before .before .before .batch-plan in
+    let n = length (a .out .now) in
+    let y : length (a .self .given) ≡ 8 = let h = c .before .before .before .before .before .before .before .before .before .good .0 .1 .1 .1 .1 .1 .1 .1 .1 .0 in search (needs, h) in
+    ⊎-elim
+    (λ w. (
+      rw (c .before .apart .ensures, w .7, w .8, w .0 .taken) (batch-done (a .self) (a .area .now) (a .q) (p .result) (p .ensures) (w .0 .taken) n (w .1 .result) (w .1 .ensures) y),
+      w .6 ∙ (w .3 .ensures ∙ batch-copied (a .self) (a .area .now) (a .q) (p .result) (p .ensures) (w .0 .taken) (a .out .now) (w .1 .result) (w .1 .ensures) y),
+    ))
+    (λ w. (
+      rw (c .before .apart .ensures, w .2, w .3) (batch-refused (a .self) (a .area .now) (a .q) (p .result) (p .ensures) (w .0 .left) n),
+      w .1 ∙ batch-kept (a .self) (a .area .now) (a .q) (p .result) (p .ensures) (w .0 .left) (a .out .now),
+    ))
+    (c .before .before .if1 .came)
 
 pub batch-spec : {M : Type 1} → statement M
 batch-spec =
     tie.close
     (tie.spec
     sound-requires batch-plan-requires
-    returns
-    element-copy-out-given
+    array-read-given
     room-for-requires
     copy-words-requires
-    add-self
-    element-write-self
-    cast-t22
+    add-all
+    array-write-all
+    apart-requires
     same-length
-    returns-2)
+    returns)
