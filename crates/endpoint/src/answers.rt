@@ -2,9 +2,11 @@
 ghost use mathlib.Core.Bool.{cond};
 ghost use mathlib.Core.Path.{_≡_};
 ghost use Rattle.endpoint.specs.Numbers.{refusedWith, declares as declaresOf, sends as sendsOf, wordWith, installs as installsOf};
+ghost use Rattle.endpoint.specs.State.{withHeard, withSlots};
 use crate::Answer;
 use crate::EndPoint;
 use messages::Message;
+use slots::Slots;
 use views::View;
 
 // The number n where its check applies, and else what the later checks give.
@@ -36,6 +38,23 @@ pub(crate) fn plain(ep: EndPoint, number: u8) -> Answer
     ensures { λ r. ⌜ r ≡ refusedWith number ep ⌝ }
 {
     let e = apart(ep);
+    Answer {
+        ep: e,
+        message: Message::blank(0),
+        view: View::none(),
+        word: 0,
+        number,
+        set: 0,
+    }
+}
+
+// With other slots and received counts. A step that writes the area too has this answer first: after such a write the end-point would be copied once more.
+pub(crate) fn keeps(ep: EndPoint, number: u8, slots: Slots, received: [u8; 8]) -> Answer
+    ensures { λ r. ⌜ r ≡ refusedWith number (withHeard (ep .heard) received (withSlots slots ep)) ⌝ }
+{
+    let mut e = apart(ep);
+    e.slots = slots;
+    e.received = received;
     Answer {
         ep: e,
         message: Message::blank(0),

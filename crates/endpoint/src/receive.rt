@@ -103,19 +103,20 @@ fn word_plan(e: EndPoint, area: &[u64], q: u8, w: u64) -> WordPlan
     }
 }
 
-fn take_word(mut e: EndPoint, area: &mut [u64], q: u8, w: u64) -> Answer
+fn take_word(e: EndPoint, area: &mut [u64], q: u8, w: u64) -> Answer
     requires { ⌜ Receivable e (now area) q ⌝ }
     ensures { λ r. ⌜ (r ≡ settle (wordChecks e (now (area .entry)) q w) e (accepted (afterWord e q))) × (now (area .exit) ≡ settleArea (wordChecks e (now (area .entry)) q w) (now (area .entry)) (areaAfterWord e (now (area .entry)) q w)) ⌝ }
 {
     let p = word_plan(e, area, q, w);
     if (p.number == 0) & p.stored {
-        let at = slots::place(p.slot, q, p.index);
-        area[at] = w;
-        let next = e.slots.mark(p.slot, q, p.index);
+        let held = e.slots;
+        let next = held.mark(p.slot, q, p.index);
         let mut counts = e.received;
         counts[q as usize] = p.index;
-        e.slots = next;
-        e.received = counts;
+        let a = answers::keeps(e, p.number, next, counts);
+        let at = slots::place(p.slot, q, p.index);
+        area[at] = w;
+        return a;
     }
     answers::plain(e, p.number)
 }
