@@ -41,7 +41,7 @@ fn send_plan(e: EndPoint, ok: bool, area: &[u64]) -> Plan
 
 impl EndPoint {
     // Application send: appends the word to p's own in the current view.
-    pub fn send(mut self, area: &mut [u64], w: u64) -> Answer
+    pub fn send(self, area: &mut [u64], w: u64) -> Answer
         ensures { λ r. ⌜ (r ≡ step (sendOf w) self (now (area .entry))) × (now (area .exit) ≡ areaAfter (sendOf w) self (now (area .entry))) ⌝ }
     {
         let ok = sound::sound(self);
@@ -49,11 +49,13 @@ impl EndPoint {
         if p.number != 0 {
             return answers::plain(self, p.number);
         }
+        let held = self.slots;
+        let next = held.mark(p.slot, self.me, p.index);
+        let received = self.received;
+        let a = answers::keeps(self, 0, next, received);
         let at = slots::place(p.slot, self.me, p.index);
         area[at] = w;
-        let next = self.slots.mark(p.slot, self.me, p.index);
-        self.slots = next;
-        answers::plain(self, 0)
+        a
     }
 
     // Block-ok: becomes blocked.

@@ -28,28 +28,47 @@ returns : tie.Need-returns
 unfolding checks
 returns c = (c .plain .ensures ∙ refused (send (c .before .before .before .before .before .before .before .args .w)) (c .before .before .before .before .before .before .before .args .self) (c .before .before .before .before .before .before .before .args .area .now) _ (c .before .before .before .send-plan .ensures .number) (c .before .if1 .taken), kept (send (c .before .before .before .before .before .before .before .args .w)) (c .before .before .before .before .before .before .before .args .self) (c .before .before .before .before .before .before .before .args .area .now) _ (c .before .before .before .send-plan .ensures .number) (c .before .if1 .taken))
 
+mark-requires : tie.Need-mark-requires
+mark-requires c κs = search needs
+
+keeps-requires : tie.Need-keeps-requires
+keeps-requires c κs = search needs
+
 place-requires : tie.Need-place-requires
 place-requires c κs = search needs
 
 mul-area : tie.Need-mul-area
 unfolding sendChecks
-mul-area c = let h : c .place .result < length (c .before .before .before .before .before .before .before .args .area .now) = rw (c .place .ensures, c .before .before .before .send-plan .ensures .slot (sym (c .before .before .before .send-plan .ensures .number) ∙ c .before .if1 .left), c .before .before .before .send-plan .ensures .index (sym (c .before .before .before .send-plan .ensures .number) ∙ c .before .if1 .left)) (send-within _ _ (sym (c .before .before .before .send-plan .ensures .number) ∙ c .before .if1 .left)) in omega (arith, whole _ _ _ (sym (c .before .before .before .send-plan .ensures .number) ∙ c .before .if1 .left))
+mul-area c =
+    let a = c .before .before .before .before .before .before .before .before .before .before .before .args in
+    let p = c .before .before .before .before .before .before .before .send-plan in
+    let y = c .before .before .before .before .before .if1 .left in
+    let z = sym (p .ensures .number) ∙ y in
+    let h : c .place .result < length (a .area .now) = rw (c .place .ensures, p .ensures .slot z, p .ensures .index z) (send-within _ _ z) in
+    omega (arith, whole _ _ _ z)
 
 slice-write-area : tie.Need-slice-write-area
-slice-write-area c = let h : c .place .result < length (c .before .before .before .before .before .before .before .args .area .now) = rw (c .place .ensures, c .before .before .before .send-plan .ensures .slot (sym (c .before .before .before .send-plan .ensures .number) ∙ c .before .if1 .left), c .before .before .before .send-plan .ensures .index (sym (c .before .before .before .send-plan .ensures .number) ∙ c .before .if1 .left)) (send-within _ _ (sym (c .before .before .before .send-plan .ensures .number) ∙ c .before .if1 .left)) in h
-
-mark-requires : tie.Need-mark-requires
-mark-requires c κs = search needs
-
-plain-requires-2 : tie.Need-plain-requires-2
-plain-requires-2 c κs = search needs
+slice-write-area c =
+    let a = c .before .before .before .before .before .before .before .before .before .before .before .args in
+    let p = c .before .before .before .before .before .before .before .send-plan in
+    let y = c .before .before .before .before .before .if1 .left in
+    let z = sym (p .ensures .number) ∙ y in
+    let h : c .place .result < length (a .area .now) = rw (c .place .ensures, p .ensures .slot z, p .ensures .index z) (send-within _ _ z) in
+    h
 
 same-length-2 : tie.Need-same-length-2
 same-length-2 c = search needs
 
 returns-2 : tie.Need-returns-2
 unfolding checks effect stored afterSend areaAfterSend markWord markIn
-returns-2 c = (c .plain2 .ensures ∙ rw (c .before .mark .ensures, c .before .before .before .before .before .send-plan .ensures .slot (sym (c .before .before .before .before .before .send-plan .ensures .number) ∙ c .before .before .before .if1 .left), c .before .before .before .before .before .send-plan .ensures .index (sym (c .before .before .before .before .before .send-plan .ensures .number) ∙ c .before .before .before .if1 .left)) (done (send (c .before .before .before .before .before .before .before .before .before .args .w)) (c .before .before .before .before .before .before .before .before .before .args .self) (c .before .before .before .before .before .before .before .before .before .args .area .now) _ (c .before .before .before .before .before .send-plan .ensures .number) (c .before .before .before .if1 .left)), rw (c .before .before .place .ensures, c .before .before .before .before .before .send-plan .ensures .slot (sym (c .before .before .before .before .before .send-plan .ensures .number) ∙ c .before .before .before .if1 .left), c .before .before .before .before .before .send-plan .ensures .index (sym (c .before .before .before .before .before .send-plan .ensures .number) ∙ c .before .before .before .if1 .left)) (put (send (c .before .before .before .before .before .before .before .before .before .args .w)) (c .before .before .before .before .before .before .before .before .before .args .self) (c .before .before .before .before .before .before .before .before .before .args .area .now) _ (c .before .before .before .before .before .send-plan .ensures .number) (c .before .before .before .if1 .left)))
+returns-2 c =
+    let a = c .before .before .before .before .before .before .before .before .before .before .before .args in
+    let p = c .before .before .before .before .before .before .before .send-plan in
+    let y = c .before .before .before .before .before .if1 .left in
+    let z = sym (p .ensures .number) ∙ y in (
+      c .before .keeps .ensures ∙ rw (c .before .before .before .mark .ensures, p .ensures .slot z, p .ensures .index z) (done (send (a .w)) (a .self) (a .area .now) _ (p .ensures .number) y),
+      rw (c .place .ensures, p .ensures .slot z, p .ensures .index z) (put (send (a .w)) (a .self) (a .area .now) _ (p .ensures .number) y),
+    )
 
 pub send-spec : {M : Type 1} → statement M
 send-spec =
@@ -59,10 +78,10 @@ send-spec =
     plain-requires
     same-length
     returns
+    mark-requires
+    keeps-requires
     place-requires
     mul-area
     slice-write-area
-    mark-requires
-    plain-requires-2
     same-length-2
     returns-2)
