@@ -29,6 +29,7 @@ pub struct Change {
 }
 
 // "What an end-point remembers". told is 1 where the current view is announced. p's own entries of heard and received are no part of it.
+// The slots stand between two small fields, so that they are copied apart from the rest (answers::apart).
 #[repr(C)]
 pub struct EndPoint {
     pub current: View,
