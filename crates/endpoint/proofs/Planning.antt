@@ -149,6 +149,13 @@ send-within e area z =
     let n : k ≡ 128 → ⊥ = λ q. clash (eq-eqb k 128 q) (d .0) in
     place-within e area (a .0) (e .me) (k + 1) (me-low e s) (omega arith) (omega (arith, run-low (e .slots) (e .current) (e .me)))
 
+-- where the plan of a send that is accepted puts the word
+pub send-at : (e : EndPoint) (area : List ℕ) (p : Plan) → Planned (sendChecks e area) (slotOf (e .slots) (e .current)) (ownRun e + 1) p → p .number ≡ 0
+    → (at : ℕ) → at ≡ place (p .slot) (e .me) (p .index) → at < length area
+send-at e area p w y at g =
+    let z = sym (w .number) ∙ y in
+    rw (g, w .slot z, w .index z) (send-within e area z)
+
 -- what a table that begins with an unfit end-point says where no check applies
 pub whole : (e : EndPoint) (area : List ℕ) (cs : List Check) → verdict (check 1 (unfit e area) ∷ cs) ≡ 0 → length area ≡ 4096
 whole e area cs z = fit-of e area (none-applies 1 (unfit e area) cs (omega arith) z .0) .1

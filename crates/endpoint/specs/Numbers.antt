@@ -55,10 +55,6 @@ sends e s m = record { ep = e; message = m; view = noView; word = 0; number = 0;
 abbrev pub gives : EndPoint → ℕ → Answer
 gives e w = record { ep = e; message = blank 0; view = noView; word = w; number = 0; set = 0 }
 
--- the number n and a word: what a step that gives a word answers, refused or not
-abbrev pub wordWith : ℕ → EndPoint → ℕ → Answer
-wordWith n e w = record { ep = e; message = blank 0; view = noView; word = w; number = n; set = 0 }
-
 -- accepted, with a view and the set T
 abbrev pub installs : EndPoint → View → ℕ → Answer
 installs e v t = record { ep = e; message = blank 0; view = v; word = 0; number = 0; set = t }

@@ -10,7 +10,7 @@ use lib.ListN.{length, getD}
 use Rattle.below.specs.Below.{listBelow}
 use Rattle.views.specs.Sets.{has}
 use Rattle.views.specs.declared.View.{View}
-use Rattle.views.specs.Views.{viewOk, same}
+use Rattle.views.specs.Views.{noView, viewOk, same}
 use Rattle.marks.specs.Marks.{runIn, noMarks as noWords}
 use Rattle.records.specs.Records.{holdsRecord}
 use Rattle.slots.specs.declared.Slots.{Slots}
@@ -19,6 +19,7 @@ use Rattle.slots.specs.Slots.{place, slotIn, slotOf, run}
 use Rattle.parts.specs.Counts.{givenFit}
 use Rattle.endpoint.specs.declared.Change.{Change}
 use Rattle.endpoint.specs.declared.EndPoint.{EndPoint}
+use Rattle.endpoint.specs.declared.Answer.{Answer}
 use Rattle.endpoint.specs.declared.Plan.{Plan}
 use Rattle.endpoint.specs.declared.InstallPlan.{InstallPlan}
 use Rattle.endpoint.specs.declared.ViewPlan.{ViewPlan}
@@ -28,6 +29,7 @@ use Rattle.endpoint.specs.declared.WordPlan.{WordPlan}
 use Rattle.endpoint.specs.Sound.{heardFrom, sound}
 use Rattle.endpoint.specs.Receive.{needsSlot, viewChecks, wordChecks, forwardChecks, live, nextWord}
 use Rattle.messages.specs.declared.Message.{Message}
+use Rattle.messages.specs.Messages.{blank}
 use Rattle.endpoint.specs.State.{isPending}
 use Rattle.endpoint.specs.Application.{unfit}
 use Rattle.endpoint.specs.Give.{limit}
@@ -55,6 +57,10 @@ pub record Planned (cs : List Check) (s i : ℕ) (p : Plan) : Type 0 where
   pub number : p .number ≡ verdict cs
   pub slot : verdict cs ≡ 0 → p .slot ≡ s
   pub index : verdict cs ≡ 0 → p .index ≡ i
+
+-- what give out answers by its one way out: its number, and a word that is 0 where it is refused
+abbrev pub wordWith : ℕ → EndPoint → ℕ → Answer
+wordWith n e w = record { ep = e; message = blank 0; view = noView; word = w; number = n; set = 0 }
 
 -- ---- what a received message comes to
 

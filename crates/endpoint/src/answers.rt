@@ -1,7 +1,8 @@
 // What a step answers, and its number: the first of its checks that applies.
 ghost use mathlib.Core.Bool.{cond};
 ghost use mathlib.Core.Path.{_≡_};
-ghost use Rattle.endpoint.specs.Numbers.{refusedWith, declares as declaresOf, sends as sendsOf, wordWith, installs as installsOf};
+ghost use Rattle.endpoint.specs.Numbers.{refusedWith, declares as declaresOf, sends as sendsOf, installs as installsOf};
+ghost use Rattle.endpoint.specs.Pass.{wordWith};
 ghost use Rattle.endpoint.specs.State.{withHeard, withSlots};
 use crate::Answer;
 use crate::EndPoint;

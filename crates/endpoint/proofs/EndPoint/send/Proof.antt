@@ -1,6 +1,6 @@
 -- `send` meets its contract. Assumes nothing.
 use Rattle.endpoint.proofs.Settling.{refused, kept, done, put}
-use Rattle.endpoint.proofs.Planning.{planned-no, planned-yes, slot-is, run-is, held-is, fit-of, passed-low, given-low, send-within, place-within, whole, low-one, low-two}
+use Rattle.endpoint.proofs.Planning.{planned-no, planned-yes, slot-is, run-is, held-is, fit-of, passed-low, given-low, send-at, place-within, whole, low-one, low-two}
 use Rattle.endpoint.specs.Steps.{checks, effect, stored, send}
 use Rattle.endpoint.specs.Application.{sendChecks, afterSend, areaAfterSend}
 use Rattle.slots.specs.Slots.{markWord, markIn}
@@ -43,18 +43,14 @@ mul-area c =
     let a = c .before .before .before .before .before .before .before .before .before .before .before .args in
     let p = c .before .before .before .before .before .before .before .send-plan in
     let y = c .before .before .before .before .before .if1 .left in
-    let z = sym (p .ensures .number) ∙ y in
-    let h : c .place .result < length (a .area .now) = rw (c .place .ensures, p .ensures .slot z, p .ensures .index z) (send-within _ _ z) in
-    omega (arith, whole _ _ _ z)
+    omega (arith, send-at (a .self) (a .area .now) (p .result) (p .ensures) y (c .place .result) (c .place .ensures), whole _ _ _ (sym (p .ensures .number) ∙ y))
 
 slice-write-area : tie.Need-slice-write-area
 slice-write-area c =
     let a = c .before .before .before .before .before .before .before .before .before .before .before .args in
     let p = c .before .before .before .before .before .before .before .send-plan in
     let y = c .before .before .before .before .before .if1 .left in
-    let z = sym (p .ensures .number) ∙ y in
-    let h : c .place .result < length (a .area .now) = rw (c .place .ensures, p .ensures .slot z, p .ensures .index z) (send-within _ _ z) in
-    h
+    send-at (a .self) (a .area .now) (p .result) (p .ensures) y (c .place .result) (c .place .ensures)
 
 same-length-2 : tie.Need-same-length-2
 same-length-2 c = search needs
