@@ -1,5 +1,7 @@
 // What the members of both views agree on: T, the agreed counts, and the words that are due, by the records held.
 // Each function is total and its promise fixes its answer.
+#![tactic(auto)]
+
 use views::Cut;
 
 mod agreeing;
@@ -13,14 +15,14 @@ pub use marking::{no_rows, raised};
 
 // The forward marks of one destination, by sender.
 #[repr(C)]
-#[derive(Drop)]
+#[derive(Clone, Copy)]
 pub struct Row {
     pub marks: [u8; 8],
 }
 
 // T and its records' cuts, found in one pass: a member outside T has no cut here. counts is the agreed count of each sender;
 // unnamed is whether a named record of a member of both views is not held.
-#[derive(Drop)]
+#[derive(Clone, Copy)]
 pub struct Agreement {
     pub cuts: [Cut; 8],
     pub counts: Cut,
@@ -29,7 +31,7 @@ pub struct Agreement {
 }
 
 // What the pass finds of one member: its cut where it is in T, and none elsewhere; whether it is in T; whether its named record is held where it is a member of both views.
-#[derive(Drop)]
+#[derive(Clone, Copy)]
 struct Part {
     cut: Cut,
     agrees: bool,

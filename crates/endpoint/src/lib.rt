@@ -1,4 +1,6 @@
 // The end-point: its state, its thirteen steps and the batch. Every field is an integer, so every bit pattern is a value, and `sound` decides.
+#![tactic(auto)]
+
 mod answers;
 mod application;
 mod batches;
@@ -20,7 +22,7 @@ use views::View;
 // The change that the membership service has started: latest start number and set, whether it is open and pending, the block state.
 // opened and pending are 0 or 1; block is 0 free, 1 asked, 2 blocked.
 #[repr(C)]
-#[derive(Drop)]
+#[derive(Clone, Copy)]
 pub struct Change {
     pub number: u32,
     pub set: u8,
@@ -32,7 +34,7 @@ pub struct Change {
 // "What an end-point remembers". told is 1 where the current view is announced. p's own entries of heard and received are no part of it.
 // The slots stand between two small fields, so that they are copied apart from the rest (answers::apart).
 #[repr(C)]
-#[derive(Drop)]
+#[derive(Clone, Copy)]
 pub struct EndPoint {
     pub current: View,
     pub membership: View,
@@ -51,7 +53,7 @@ pub struct EndPoint {
 
 // What a step answers: the end-point after it, its number (0 is accepted), and what it gives; what it does not give is blank.
 #[repr(C)]
-#[derive(Drop)]
+#[derive(Clone, Copy)]
 pub struct Answer {
     pub ep: EndPoint,
     pub message: Message,
@@ -63,7 +65,7 @@ pub struct Answer {
 
 // What a batch answers: the end-point after it, how many single give-outs it equals, its number.
 #[repr(C)]
-#[derive(Drop)]
+#[derive(Clone, Copy)]
 pub struct Batch {
     pub ep: EndPoint,
     pub count: u64,
@@ -71,7 +73,7 @@ pub struct Batch {
 }
 
 // A step's number and, where that is 0, the slot and the index of the word that it is about.
-#[derive(Drop)]
+#[derive(Clone, Copy)]
 struct Plan {
     number: u8,
     slot: u8,
@@ -79,14 +81,14 @@ struct Plan {
 }
 
 // A received view's number, and whether it takes a slot.
-#[derive(Drop)]
+#[derive(Clone, Copy)]
 struct ViewPlan {
     number: u8,
     needs: bool,
 }
 
 // A received word's number, whether it is stored, and where.
-#[derive(Drop)]
+#[derive(Clone, Copy)]
 struct WordPlan {
     number: u8,
     stored: bool,
@@ -95,7 +97,7 @@ struct WordPlan {
 }
 
 // Install's number and, where that is 0, T.
-#[derive(Drop)]
+#[derive(Clone, Copy)]
 struct InstallPlan {
     number: u8,
     set: u8,

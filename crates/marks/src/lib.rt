@@ -1,4 +1,6 @@
 // The marks of held words: which words of a sender are held, the run, and whether there is a gap. Each function is total and its promise fixes its answer.
+#![tactic(auto)]
+
 ghost use Rattle.std.specs.Prelude.{◌≡◌, ◌<◌, ◌≤◌};
 ghost use Rattle.below.specs.Below.{run_below};
 ghost use Rattle.below.specs.Bits.{bit};
@@ -9,7 +11,7 @@ ghost use Rattle.marks.specs.Marks.{row_of, held_in, run_in, no_gap_in, marked_i
 
 // The marks of one sender in one slot: word i is bit i - 1 of low up to word 64, bit i - 65 of high after it.
 #[repr(C)]
-#[derive(Drop)]
+#[derive(Clone, Copy)]
 pub struct Held {
     pub low: u64,
     pub high: u64,
@@ -17,7 +19,7 @@ pub struct Held {
 
 // The marks of one slot, a row a sender.
 #[repr(C)]
-#[derive(Drop)]
+#[derive(Clone, Copy)]
 pub struct Marks {
     pub rows: [Held; 8],
 }

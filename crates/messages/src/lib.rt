@@ -1,4 +1,6 @@
 // The six kinds of message in bytes: what a message is, the reader and the writer, by value and by a field area. Each public function takes any values, and its promise fixes its answer and every lent byte.
+#![tactic(auto)]
+
 ghost use Rattle.std.specs.Prelude.{◌≡◌};
 
 use views::{Cut, View};
@@ -20,7 +22,7 @@ pub use writer::write_fields;
 
 // What a kind does not have is 0.
 #[repr(C)]
-#[derive(Drop)]
+#[derive(Clone, Copy)]
 pub struct Message {
     pub view: View,
     pub word: u64,
@@ -34,7 +36,7 @@ pub struct Message {
 
 // What reading gives: 0 and the message, or 1 and a blank one.
 #[repr(C)]
-#[derive(Drop)]
+#[derive(Clone, Copy)]
 pub struct Reading {
     pub message: Message,
     pub number: u8,

@@ -1,5 +1,7 @@
 // The C driver's side: here messages, read and written by numbers in a field area and bytes in a byte area; the end-point's steps are in steps.
 // include/nhuoseng.h declares these calls.
+#![tactic(auto)]
+
 mod steps;
 
 ghost use Rattle.std.specs.Prelude.{◌≡◌, ◌≤◌};

@@ -1,4 +1,6 @@
 // Tests on parts of an end-point, and what its steps make of them. Each function is total and its promise fixes its answer.
+#![tactic(auto)]
+
 mod counts;
 mod others;
 mod words;

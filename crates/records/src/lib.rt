@@ -1,4 +1,6 @@
 // The sync records that an end-point holds: up to four of each sender, oldest first. Each function is total and its promise fixes its answer.
+#![tactic(auto)]
+
 ghost use Rattle.std.specs.Prelude.{◌≡◌, ◌+◌, ◌*◌};
 
 use views::{Cut, View};
@@ -8,7 +10,7 @@ mod fitting;
 mod storing;
 
 #[repr(C)]
-#[derive(Drop)]
+#[derive(Clone, Copy)]
 pub struct Record {
     pub view: View,
     pub cut: Cut,
@@ -17,7 +19,7 @@ pub struct Record {
 
 // Record k of sender r stands at r * 4 + k; of each sender the first so many count.
 #[repr(C)]
-#[derive(Drop)]
+#[derive(Clone, Copy)]
 pub struct Records {
     pub held: [Record; 32],
     pub counts: [u8; 8],

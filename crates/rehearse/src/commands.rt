@@ -3,7 +3,7 @@ use crate::lines::Fields;
 use crate::{lines, values};
 
 // What is asked of one end-point: its steps, and two ways to look at it. A view and bytes are read where the step is played.
-#[derive(Drop)]
+#[derive(Clone, Copy)]
 pub(crate) enum Step {
     Send(u64),
     BlockOk,
@@ -26,7 +26,7 @@ pub(crate) enum Step {
 }
 
 // The first number is the end-point's; a channel goes from the first to the second.
-#[derive(Drop)]
+#[derive(Clone, Copy)]
 pub(crate) enum Command {
     Fresh(u8),
     Lose(u8, u8),
@@ -36,7 +36,7 @@ pub(crate) enum Command {
 }
 
 // What is wrong with a command, apart from any step.
-#[derive(Drop)]
+#[derive(Clone, Copy)]
 pub(crate) enum Fault {
     Name,
     Count,

@@ -4,14 +4,14 @@ ghost use Rattle.std.specs.Prelude.{◌<◌, ◌≤◌, length};
 use crate::text;
 
 // A line without what ends it, and where the next begins.
-#[derive(Drop)]
+#[derive(Clone, Copy)]
 pub(crate) struct Line {
     pub to: usize,
     pub next: usize,
 }
 
 // Where the fields of a line stand; a count of 13 is more than any command has.
-#[derive(Drop)]
+#[derive(Clone, Copy)]
 pub(crate) struct Fields {
     pub from: [usize; 12],
     pub to: [usize; 12],

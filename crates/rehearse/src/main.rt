@@ -1,5 +1,7 @@
 // rehearse: plays a take, read from standard input, on real end-points, and writes what each step answers.
 // Reading a line is in lines, values and commands; playing it in play, steps and channels; writing the answer in say, look and text.
+#![tactic(auto)]
+
 mod channels;
 mod commands;
 mod lines;

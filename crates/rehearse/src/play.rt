@@ -6,7 +6,7 @@ use endpoint::EndPoint;
 use views::sets;
 
 // After a command: the end-point that it was about, and which end-points are made.
-#[derive(Drop)]
+#[derive(Clone, Copy)]
 struct After {
     ep: EndPoint,
     made: u8,

@@ -6,19 +6,19 @@ use crate::lines::Fields;
 use views::{View, sets};
 
 // The value, where the field has one.
-#[derive(Drop)]
+#[derive(Clone, Copy)]
 pub(crate) struct ReadWord {
     pub value: u64,
     pub ok: bool,
 }
 
-#[derive(Drop)]
+#[derive(Clone, Copy)]
 pub(crate) struct ReadByte {
     pub value: u8,
     pub ok: bool,
 }
 
-#[derive(Drop)]
+#[derive(Clone, Copy)]
 pub(crate) struct ReadView {
     pub value: View,
     pub ok: bool,

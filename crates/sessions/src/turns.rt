@@ -3,7 +3,7 @@ use crate::steps;
 use endpoint::EndPoint;
 use messages::Message;
 
-#[derive(Drop)]
+#[derive(Clone, Copy)]
 pub(crate) enum Turn {
     // a send
     Send,

@@ -1,4 +1,6 @@
 // The four slots of the word area: which view each is for, and the marks of the words held in it. Each function takes any values, and its promise fixes its answer.
+#![tactic(auto)]
+
 use marks::Marks;
 use views::View;
 
@@ -12,7 +14,7 @@ pub use spending::spent;
 
 // used is 1 where the slot is for this view, 0 where it is free.
 #[repr(C)]
-#[derive(Drop)]
+#[derive(Clone, Copy)]
 pub struct Tag {
     pub view: View,
     pub used: u8,
@@ -20,7 +22,7 @@ pub struct Tag {
 
 // Tags apart from marks: finding a slot reads the tags alone.
 #[repr(C)]
-#[derive(Drop)]
+#[derive(Clone, Copy)]
 pub struct Slots {
     pub tags: [Tag; 4],
     pub marks: [Marks; 4],

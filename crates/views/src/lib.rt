@@ -1,4 +1,5 @@
 // Sets, views and cuts, and the tests that every layer above makes on them. Each test takes any values, and its promise fixes its answer.
+#![tactic(auto)]
 
 mod counts;
 pub mod sets;
@@ -8,7 +9,7 @@ pub use starts::starts_zero;
 
 // The start numbers stand first: the id and the set then share the last words.
 #[repr(C)]
-#[derive(Drop)]
+#[derive(Clone, Copy)]
 pub struct View {
     pub starts: [u32; 8],
     pub id: u32,
@@ -16,7 +17,7 @@ pub struct View {
 }
 
 #[repr(C)]
-#[derive(Drop)]
+#[derive(Clone, Copy)]
 pub struct Cut {
     pub counts: [u8; 8],
 }
