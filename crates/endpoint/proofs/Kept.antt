@@ -15,7 +15,7 @@ use Rattle.views.specs.Cuts.{cut_ok}
 use Rattle.views.specs.declared.View.{View}
 use Rattle.messages.specs.declared.Message.{Message}
 use Rattle.messages.specs.Layouts.{has_view, has_cut, place_fits, view_fits, cut_set, well_formed}
-use Rattle.messages.proofs.Answers.{PartsFit, parts-fit, kind_fits}
+use Rattle.messages.proofs.Tested.{PartsFit, parts_fit, kind_fits}
 use Rattle.records.specs.Records.{holds_record, newest, record_ok}
 use Rattle.slots.specs.Slots.{held_word, has_free}
 use Rattle.endpoint.specs.declared.EndPoint.{EndPoint}
@@ -101,19 +101,19 @@ receive_kept e area q m w p c = go (eqb m.kind 1) refl (eqb m.kind 2) (eqb m.kin
     r = received e area q m c.0
 
     f : PartsFit m
-    f = parts-fit m r.well
+    f = parts_fit m r.well
 
     go : (x : Bool) → eqb m.kind 1 ≡ x → (y z : Bool) → eqb m.kind 3 ≡ z
         → Passed (cond x (view_checks e q m.view) (cond y (word_checks e area q m.word) (cond z (sync_checks e q m) (forward_checks e area q m))))
         → Parts (cond x (after_view e q m.view) (cond y (after_word e q) (cond z (after_sync e q m) (after_forward e m))))
         × Shaped (cond x (after_view e q m.view) (cond y (after_word e q) (cond z (after_sync e q m) (after_forward e m))))
-    go true x y z zz t = view_kept e q m.view w p r.q_low r.q_other (rw x at f.view-fits) t.1.1.0
+    go true x y z zz t = view_kept e q m.view w p r.q_low r.q_other (rw x at f.view_fit) t.1.1.0
     go false x true z zz t =
         word_kept e q w p r.q_low r.q_other (differ (heard_from e q).id 0 t.0)
         (λ l k. differ (get_or e.received q 0) 128 (not_both (live e q) (eqb (get_or e.received q 0) 128) t.1.0 l) k)
     go false x false true zz t =
         synced_kept e q m w p r.q_low r.q_other
-        (and_both (rw (x, zz) at f.view-fits) (rw zz at f.cut_fits))
+        (and_both (rw (x, zz) at f.view_fit) (rw zz at f.cut_fit))
         (ltb-true (newest e.records q) m.number (is_not (ltb (newest e.records q) m.number) t.1.0))
     go false x false false zz t =
         let s = not (eqb m.sender e.me) in

@@ -15,7 +15,7 @@ use Rattle.views.specs.declared.View.{View}
 use Rattle.views.specs.Views.{initial, same}
 use Rattle.messages.specs.declared.Message.{Message}
 use Rattle.messages.specs.Layouts.{well_formed}
-use Rattle.messages.proofs.Answers.{parts-fit, kind_fits}
+use Rattle.messages.proofs.Tested.{parts_fit, kind_fits}
 use Rattle.marks.specs.declared.Marks.{Marks}
 use Rattle.marks.specs.Marks.{held_in, no_marks}
 use Rattle.records.specs.declared.Records.{Records}
@@ -89,7 +89,7 @@ module _ (e : EndPoint) (area : List ℕ) (q : ℕ) (m : Message) (u : unreceiva
   -- a forward's sender and index
   pub forward_fits : m.kind ≡ 4 → (m.sender < 8) × ((1 ≤ m.index) × (m.index ≤ 128))
   forward_fits k =
-      let f : (leb m.sender 7 && (leb 1 m.index && leb m.index 128)) ≡ true = rw k at (parts-fit m passed.1.0).place-fits in
+      let f : (leb m.sender 7 && (leb 1 m.index && leb m.index 128)) ≡ true = rw k at (parts_fit m passed.1.0).place_fit in
       let g = and_right (leb m.sender 7) (leb 1 m.index && leb m.index 128) f in (
         omega (arith, leb-true m.sender 7 (and_left (leb m.sender 7) (leb 1 m.index && leb m.index 128) f)),
         (leb-true 1 m.index (and_left (leb 1 m.index) (leb m.index 128) g), leb-true m.index 128 (and_right (leb 1 m.index) (leb m.index 128) g)),

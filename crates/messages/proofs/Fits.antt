@@ -21,7 +21,7 @@ use Rattle.messages.specs.Bytes.{le}
 use Rattle.messages.specs.Layouts.{has_number, has_place, has_view, has_cut, has_set, place_fits, blank_view, word_fits, body, length_of, fields_fit, well_formed}
 use Rattle.messages.specs.Fields.{narrow_starts, narrow_counts, narrow_bytes, narrow, message_of, number_written, area_written}
 use Rattle.messages.specs.Fits.{below_or_zero, numbers_fit, zero_row, cut_fields_fit, narrow_view, view_fields_fit, fields_are}
-use Rattle.messages.proofs.Answers.{PartsFit, parts-fit, write-whole}
+use Rattle.messages.proofs.Tested.{PartsFit, parts_fit, write_whole}
 use Rattle.messages.proofs.Rows.{Narrow, narrow_each, write_row, unwritten_malformed}
 
 -- ---- a number
@@ -137,10 +137,10 @@ module _ (fs : List ℕ) where
   narrow_are e =
       let k = get_or fs 0 0 in
       let a : Narrow fs = narrow_each fs (and_left (narrow fs) (well_formed (message_of fs)) e) in
-      let f : PartsFit (message_of fs) = parts-fit (message_of fs) (and_right (narrow fs) (well_formed (message_of fs)) e) in
+      let f : PartsFit (message_of fs) = parts_fit (message_of fs) (and_right (narrow fs) (well_formed (message_of fs)) e) in
       and_both
-      (and_both (of_low (has_number k) (get_or fs 1 0) (2 ^ 32) (lt-ltb (get_or fs 1 0) (2 ^ 32) a.number_low) f.number_fits) (and_both f.place-fits (and_both f.word_fits (of_low (has_set k) (get_or fs 2 0) 256 (lt-ltb (get_or fs 2 0) 256 a.set_low) f.set-fits))))
-      (and_both (of_cut fs (has_cut k) a.view_set_low (counts_narrow a) f.cut_fits) (of_view_lem fs (has_view k) (view_narrow a) f.view-fits))
+      (and_both (of_low (has_number k) (get_or fs 1 0) (2 ^ 32) (lt-ltb (get_or fs 1 0) (2 ^ 32) a.number_low) f.number_fit) (and_both f.place_fit (and_both f.word_fit (of_low (has_set k) (get_or fs 2 0) 256 (lt-ltb (get_or fs 2 0) 256 a.set_low) f.set_fit))))
+      (and_both (of_cut fs (has_cut k) a.view_set_low (counts_narrow a) f.cut_fit) (of_view_lem fs (has_view k) (view_narrow a) f.view_fit))
 
 -- the fields' kind is one of the six, and is tested as kind j is
 pub record Tested (fs : List ℕ) (j : ℕ) : Type 0 where
@@ -183,4 +183,4 @@ unfolding message_of
 fit_written fs area k n x y e l f h m p q =
     let w = and_right (narrow fs) (well_formed (message_of fs)) e in
     write_row fs area 0 y l (and_left (narrow fs) (well_formed (message_of fs)) e)
-    (write-whole (message_of fs) area n x y (fit_low fs e).kind_low w h (rw f m) (rw f p) q)
+    (write_whole (message_of fs) area n x y (fit_low fs e).kind_low w h (rw f m) (rw f p) q)

@@ -1,7 +1,7 @@
 pub mod Numbers
 pub mod Stores
 pub mod Arms
-pub mod Answers
+pub mod Tested
 pub mod Trip
 pub mod Rows
 pub mod Fits

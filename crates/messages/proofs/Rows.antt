@@ -17,7 +17,7 @@ use Rattle.messages.specs.declared.Message.{Message}
 use Rattle.messages.specs.Layouts.{length_of, fields_fit, well_formed}
 use Rattle.messages.specs.Codec.{message_at, reads, read_of, write_number, written}
 use Rattle.messages.proofs.Arms.{NoKind, length_none}
-use Rattle.messages.proofs.Answers.{length_some, write-malformed, write-short}
+use Rattle.messages.proofs.Tested.{length_some, write_malformed, write_short}
 use Rattle.messages.proofs.Stores.{sets_join, sets_front, stores_none, stores_more, stores_end}
 use Rattle.messages.specs.Fields.{numbers_of, eight, fields_of, narrow_starts, narrow_counts, narrow_bytes, narrow, message_of, is_row, read_number, fields_read, number_written, area_written}
 
@@ -163,15 +163,15 @@ module _ (fs area : List ℕ) where
       go false e = none_written (rw (e, and-false) refl)
 
   pub unwritten_malformed : length fs ≡ 24 → (narrow fs && well_formed (message_of fs)) ≡ false → (1 ≡ number_written fs area) × (area ≡ area_written fs area)
-  unwritten_malformed l f = unwritten l (λ e. write-malformed (message_of fs) area (rw e at f))
+  unwritten_malformed l f = unwritten l (λ e. write_malformed (message_of fs) area (rw e at f))
 
   pub unwritten_short : (n : ℕ) → length fs ≡ 24 → length area < n → n ≡ length_of (get_or fs 0 0) → (1 ≡ number_written fs area) × (area ≡ area_written fs area)
   unfolding message_of
-  unwritten_short n l h e = unwritten l (λ t. write-short (message_of fs) area n h e)
+  unwritten_short n l h e = unwritten l (λ t. write_short (message_of fs) area n h e)
 
   pub unwritten_kind : length fs ≡ 24 → NoKind (get_or fs 0 0) → (1 ≡ number_written fs area) × (area ≡ area_written fs area)
   unfolding message_of
-  unwritten_kind l h = unwritten l (λ _. write-malformed (message_of fs) area (go (well_formed (message_of fs)) refl))
+  unwritten_kind l h = unwritten l (λ _. write_malformed (message_of fs) area (go (well_formed (message_of fs)) refl))
     where
       go : (b : Bool) → well_formed (message_of fs) ≡ b → well_formed (message_of fs) ≡ false
       go false e = e

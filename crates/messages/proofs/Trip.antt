@@ -26,7 +26,7 @@ use Rattle.messages.specs.Bytes.{le, number_at, view_body, view_at, cut_bytes, c
 use Rattle.messages.specs.Layouts.{has_number, has_place, has_view, has_cut, has_word, has_set, part, place_fits, blank_view, body, bytes_of, length_of, well_formed}
 use Rattle.messages.specs.Codec.{after_number, after_place, after_view, after_cut, after_word, message_at, reads, refused, read_of}
 use Rattle.messages.proofs.Numbers.{AreBytes, Stands, stands_join, stands_left, stands_right, stands_whole, stands_self, le_length, le_reads, le_stands, ViewRange, CutRange, view_length, cut_length, view_reads, view_stands, cut_reads, cut_stands}
-use Rattle.messages.proofs.Answers.{kind_fits, PartsFit, parts-fit, bytes-length}
+use Rattle.messages.proofs.Tested.{kind_fits, PartsFit, parts_fit, bytes_length}
 
 -- ---- a part that may be there
 
@@ -176,19 +176,19 @@ unfolding message_at
 message_back m bs r f s =
     let k = m.kind in
     let view_is : cond (has_view k) (view_at bs (after_place k)) no_view ≡ m.view =
-    chosen (has_view k) (view_at bs (after_place k)) no_view m.view (λ t. view_reads bs (after_place k) m.view r.view_range (s.view_stands t)) (lacks_view (has_view k) m.view r.view_range.eight f.view-fits) in
+    chosen (has_view k) (view_at bs (after_place k)) no_view m.view (λ t. view_reads bs (after_place k) m.view r.view_range (s.view_stands t)) (lacks_view (has_view k) m.view r.view_range.eight f.view_fit) in
     let word_is : cond (has_word k) (number_at 8 bs (after_cut k)) 0 ≡ m.word =
-    chosen (has_word k) (number_at 8 bs (after_cut k)) 0 m.word (λ t. le_reads 8 m.word (after_cut k) bs r.word_low (s.word_stands t)) (lacks (has_word k) m.word f.word_fits) in
+    chosen (has_word k) (number_at 8 bs (after_cut k)) 0 m.word (λ t. le_reads 8 m.word (after_cut k) bs r.word_low (s.word_stands t)) (lacks (has_word k) m.word f.word_fit) in
     let number_is : cond (has_number k) (number_at 4 bs 1) 0 ≡ m.number =
-    chosen (has_number k) (number_at 4 bs 1) 0 m.number (λ t. le_reads 4 m.number 1 bs r.number_low (s.number_stands t)) (lacks (has_number k) m.number f.number_fits) in
+    chosen (has_number k) (number_at 4 bs 1) 0 m.number (λ t. le_reads 4 m.number 1 bs r.number_low (s.number_stands t)) (lacks (has_number k) m.number f.number_fit) in
     let cut_is : cond (has_cut k) (cut_at bs (after_view k)) no_cut ≡ m.cut =
-    chosen (has_cut k) (cut_at bs (after_view k)) no_cut m.cut (λ t. cut_reads bs (after_view k) m.cut r.cut_range (s.cut_stands t)) (lacks_cut (has_cut k) m.view.set m.cut r.cut_range.eight f.cut_fits) in
+    chosen (has_cut k) (cut_at bs (after_view k)) no_cut m.cut (λ t. cut_reads bs (after_view k) m.cut r.cut_range (s.cut_stands t)) (lacks_cut (has_cut k) m.view.set m.cut r.cut_range.eight f.cut_fit) in
     let set_is : cond (has_set k) (number_at 1 bs (after_word k)) 0 ≡ m.set =
-    chosen (has_set k) (number_at 1 bs (after_word k)) 0 m.set (λ t. le_reads 1 m.set (after_word k) bs r.set_low (s.set_stands t)) (lacks (has_set k) m.set f.set-fits) in
+    chosen (has_set k) (number_at 1 bs (after_word k)) 0 m.set (λ t. le_reads 1 m.set (after_word k) bs r.set_low (s.set_stands t)) (lacks (has_set k) m.set f.set_fit) in
     let sender-is : cond (has_place k) (number_at 1 bs (after_number k)) 0 ≡ m.sender =
-    chosen (has_place k) (number_at 1 bs (after_number k)) 0 m.sender (λ t. le_reads 1 m.sender (after_number k) bs r.sender_low (stands_left (le 1 m.sender) (le 1 m.index) bs (after_number k) (s.place_stands t))) (λ t. (lacks_place k m.sender m.index f.place-fits t).0) in
+    chosen (has_place k) (number_at 1 bs (after_number k)) 0 m.sender (λ t. le_reads 1 m.sender (after_number k) bs r.sender_low (stands_left (le 1 m.sender) (le 1 m.index) bs (after_number k) (s.place_stands t))) (λ t. (lacks_place k m.sender m.index f.place_fit t).0) in
     let index_is : cond (has_place k) (number_at 1 bs (after_number k + 1)) 0 ≡ m.index =
-    chosen (has_place k) (number_at 1 bs (after_number k + 1)) 0 m.index (λ t. le_reads 1 m.index (after_number k + 1) bs r.index_low (second_byte m.sender m.index bs (after_number k) (s.place_stands t))) (λ t. (lacks_place k m.sender m.index f.place-fits t).1) in
+    chosen (has_place k) (number_at 1 bs (after_number k + 1)) 0 m.index (λ t. le_reads 1 m.index (after_number k + 1) bs r.index_low (second_byte m.sender m.index bs (after_number k) (s.place_stands t))) (λ t. (lacks_place k m.sender m.index f.place_fit t).1) in
     λ j. record { view = view_is j; word = word_is j; number = number_is j; cut = cut_is j; kind = k; set = set_is j; sender = sender-is j; index = index_is j }
 
 pub reads_back : (m : Message) → MessageRange m → well_formed m ≡ true → read_of (bytes_of m) ≡ record { message = m; number = 0 }
@@ -196,8 +196,8 @@ unfolding read_of reads bytes_of
 reads_back m r w =
     let bs = bytes_of m in
     let s : PartsStand m bs = body_opened m bs (stands_self bs).1 in
-    let b : message_at bs m.kind ≡ m = message_back m bs r (parts-fit m w) s in
-    rw (b, w, eq-eqb (length bs) (length_of m.kind) (bytes-length m (kind_fits m w).0 (kind_fits m w).1)) refl
+    let b : message_at bs m.kind ≡ m = message_back m bs r (parts_fit m w) s in
+    rw (b, w, eq-eqb (length bs) (length_of m.kind) (bytes_length m (kind_fits m w).0 (kind_fits m w).1)) refl
 
 -- ---- bytes that read are the bytes that their message writes
 
@@ -230,7 +230,7 @@ reads_only bs m h e = go (reads bs) refl e
     whole t =
         let w : well_formed read ≡ true = and_right (eqb (length bs) (length_of (get_or bs 0 0))) (well_formed read) t in
         let l : length bs ≡ length_of (get_or bs 0 0) = eqb-true (length bs) (length_of (get_or bs 0 0)) (and_left (eqb (length bs) (length_of (get_or bs 0 0))) (well_formed read) t) in
-        (w, stands_whole (bytes_of read) bs (bytes-length read (kind_fits read w).0 (kind_fits read w).1 ∙ sym l) (refl, body_closed read bs (parts_given bs (get_or bs 0 0) h)))
+        (w, stands_whole (bytes_of read) bs (bytes_length read (kind_fits read w).0 (kind_fits read w).1 ∙ sym l) (refl, body_closed read bs (parts_given bs (get_or bs 0 0) h)))
 
     go : (b : Bool) → reads bs ≡ b → cond b (record { message = read; number = 0 }) refused ≡ record { message = m; number = 0 } → (well_formed m ≡ true) × (bytes_of m ≡ bs)
     go true t p = let q : read ≡ m = ap (λ (x : Reading). x.message) p in subst (λ (x : Message). (well_formed x ≡ true) × (bytes_of x ≡ bs)) q (whole t)

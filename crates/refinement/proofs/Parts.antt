@@ -15,7 +15,7 @@ use Rattle.views.specs.Sets.{has, within, joined, less}
 use Rattle.views.proofs.Members.{has_above, set_low, less_has, joined_has, within_has}
 use Rattle.messages.specs.declared.Message.{Message}
 use Rattle.messages.specs.Layouts.{fields_fit, well_formed}
-use Rattle.messages.proofs.Answers.{parts-fit}
+use Rattle.messages.proofs.Tested.{parts_fit}
 use Rattle.records.specs.Records.{records_rise, records_well_formed, records_at_most}
 use Rattle.slots.specs.Slots.{has_slot, no_gaps, slots_differ, all_used}
 use Rattle.endpoint.specs.declared.EndPoint.{EndPoint}
@@ -127,7 +127,7 @@ kind_four m w l a b c =
 
 pub place_of : (m : Message) → well_formed m ≡ true → m.kind ≡ 4 → (m.sender < 8) × ((1 ≤ m.index) × (m.index ≤ 128))
 place_of m w k =
-    let f : (leb m.sender 7 && (leb 1 m.index && leb m.index 128)) ≡ true = rw k at (parts-fit m w).place-fits in
+    let f : (leb m.sender 7 && (leb 1 m.index && leb m.index 128)) ≡ true = rw k at (parts_fit m w).place_fit in
     let g = and_right (leb m.sender 7) (leb 1 m.index && leb m.index 128) f in (
       omega (arith, leb-true m.sender 7 (and_left (leb m.sender 7) (leb 1 m.index && leb m.index 128) f)),
       (leb-true 1 m.index (and_left (leb 1 m.index) (leb m.index 128) g), leb-true m.index 128 (and_right (leb 1 m.index) (leb m.index 128) g)),

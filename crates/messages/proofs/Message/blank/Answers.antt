@@ -1,0 +1,6 @@
+-- `Message::blank` meets its contract: its view and cut are the blank ones. Assumes nothing.
+use borrow.Author.Rules.{rules}
+use Rattle.messages.proofs.Message.blank.Goals as goal
+
+pub returns : goal.returns
+returns c = rw (c.no_view.ensures, c.no_cut.ensures)

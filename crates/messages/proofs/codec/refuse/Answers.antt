@@ -1,0 +1,6 @@
+-- `codec::refuse` meets its contract: its message is blank. Assumes nothing.
+use borrow.Author.Rules.{rules}
+use Rattle.messages.proofs.codec.refuse.Goals as goal
+
+pub returns : goal.returns
+returns c = rw c.blank.ensures

@@ -1,0 +1,15 @@
+-- `get::starts_at` meets its contract: the places passed are filled. Assumes nothing.
+use borrow.Author.Rules.{rules}
+use Prim.Native.Nat.{◌≤◌, ◌-◌, ◌+◌, ◌*◌}
+use mathlib.Core.Path.{◌≡◌, refl}
+use lib.ListN.{length, replicate}
+use Rattle.below.specs.Below.{fill_below}
+use Rattle.below.proofs.Lists.{fills, filled_none}
+use Rattle.messages.specs.Bytes.{number_at, row_at}
+use Rattle.messages.proofs.get.starts_at.Given as goal
+
+abbrev pub invariant-loop-n : goal.invariant-loop-n
+invariant-loop-n l = (l.n ≤ 8) × ((length l.starts ≡ 8) × (l.starts ≡ fill_below (λ k. number_at 4 l.bytes (l.at + 4 * k)) (replicate 8 0) l.n))
+
+abbrev pub decreases-loop-n : goal.decreases-loop-n
+decreases-loop-n l = 8 - l.n

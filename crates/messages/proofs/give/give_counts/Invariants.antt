@@ -1,0 +1,16 @@
+-- `give::give_counts` meets its contract: the numbers passed are stored. Assumes nothing.
+use borrow.Author.Rules.{rules}
+use Prim.Native.Nat.{◌≤◌, ◌-◌}
+use mathlib.Core.Path.{◌≡◌, refl}
+use lib.ListN.{length, get_or, length-set}
+use Rattle.below.specs.Below.{list_below}
+use lib.Seq.{sets}
+use native.Mathlib.Omega.{arith}
+use Rattle.messages.proofs.Rows.{copy_none, copy_more, copy_end}
+use Rattle.messages.proofs.give.give_counts.Given as goal
+
+abbrev pub invariant-loop-n : goal.invariant-loop-n
+invariant-loop-n l = (l.n ≤ 8) × ((length l.fields ≡ length l.initial.fields) × (l.fields ≡ sets l.initial.fields 16 (list_below (λ k. get_or l.counts k 0) l.n)))
+
+abbrev pub decreases-loop-n : goal.decreases-loop-n
+decreases-loop-n l = 8 - l.n

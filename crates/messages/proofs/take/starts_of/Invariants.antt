@@ -1,0 +1,19 @@
+-- `take::starts_of` meets its contract: the places passed are filled. Assumes nothing.
+use borrow.Author.Rules.{rules}
+use Prim.Native.Nat.{◌≤◌, ◌-◌, ◌+◌}
+use mathlib.Core.Path.{◌≡◌, refl}
+use lib.ListN.{length, replicate, get_or}
+use Rattle.below.specs.Below.{fill_below}
+use Rattle.below.proofs.Lists.{fills, filled_none}
+use Prim.Native.Nat.{◌^◌}
+use lib.Dec.{ltb}
+use borrow.Author.Tests.{ltb-true}
+use Rattle.below.proofs.All.{all_each}
+use Rattle.messages.specs.Fields.{narrow_starts}
+use Rattle.messages.proofs.take.starts_of.Given as goal
+
+abbrev pub invariant-loop-n : goal.invariant-loop-n
+invariant-loop-n l = (l.n ≤ 8) × ((length l.starts ≡ 8) × (l.starts ≡ fill_below (λ k. get_or l.fields (8 + k) 0) (replicate 8 0) l.n))
+
+abbrev pub decreases-loop-n : goal.decreases-loop-n
+decreases-loop-n l = 8 - l.n

@@ -1,0 +1,19 @@
+-- `search::free_in_lem` meets its contract: no slot passed is free. Assumes nothing.
+use Prim.Native.Nat.{◌≤◌, ◌-◌}
+use mathlib.Core.Path.{◌≡◌, ◌∙◌, refl}
+use lib.ListN.{length, get_or}
+use Rattle.marks.proofs.Slot.{array_length}
+use mathlib.Core.Bool.{true, not}
+use lib.Dec.{eqb}
+use Rattle.below.specs.Below.{none_below}
+use Rattle.below.proofs.Run.{runs, find_none, find_stop, find_more, find_end}
+use Rattle.below.proofs.Tests.{picks}
+use Rattle.slots.proofs.Elements.{past_tag, free_any}
+use borrow.Author.Rules.{rules}
+use Rattle.slots.proofs.search.free_in.Given as goal
+
+abbrev pub invariant-loop-s : goal.invariant-loop-s
+invariant-loop-s l = (l.s ≤ 4) × (none_below (λ k. not (eqb (get_or l.tags k past_tag).used 1)) l.s ≡ true)
+
+abbrev pub decreases-loop-s : goal.decreases-loop-s
+decreases-loop-s l = 4 - l.s
