@@ -46,7 +46,7 @@ fn number_at(numbers: &[u32; 32], at: usize) -> u32
 
 // Where m's record with this number stands: its count where none is held.
 fn find(numbers: &[u32; 32], m: u8, count: u8, number: u32) -> u8
-    ensures* { λ k. ⌜ k ≡ first_below (λ k. eqb (number_at numbers.now (m * 4 + k)) number) count ⌝ }
+    ensures { result ≡ first_below (λ k. eqb (number_at numbers.now (m * 4 + k)) number) count }
 {
     let mut k: u8 = 0;
     while k < count {

@@ -2,6 +2,7 @@
 use mathlib.Core.Path.{refl}
 use Rattle.messages.proofs.Arms.{length_is, length_none}
 use Rattle.messages.specs.Layouts.{length_of}
+use borrow.Author.Rules.{rules}
 use Rattle.messages.proofs.codec.length_of.Goals as goal
 
 pub returns-in-1 : goal.returns-in-1

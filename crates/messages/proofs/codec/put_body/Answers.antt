@@ -159,12 +159,12 @@ pub returns-in_default : goal.returns-in_default
 returns-in_default c =
     let a = c.args in
     stored_none a.m a.area.now (
-      λ e. (search rules) (inl e),
+      λ e. grind arith,
       (
-        (search rules),
+        λ e. omega arith,
         (
-          (search rules),
-          ((search rules), ((search rules), λ e. (search rules) (inr e))),
+          λ e. omega arith,
+          (λ e. omega arith, (λ e. omega arith, λ e. grind arith)),
         ),
       ),
     )

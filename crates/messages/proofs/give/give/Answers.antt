@@ -10,6 +10,6 @@ returns c =
     let the-give-starts = c.give_starts in
     let the-give-counts = c.give_counts in
     let the-give-numbers = c.give_numbers in
-    whole_row a.m a.fields.now the-give-starts.new.fields.0 the-give-counts.new.fields.0
-    the-give-numbers.new.fields.1.0 (asked) the-give-starts.ensures the-give-counts.ensures
+    whole_row a.m a.fields.now the-give-starts.new.fields the-give-counts.new.fields
+    the-give-numbers.new.fields (asked) the-give-starts.ensures the-give-counts.ensures
     the-give-numbers.ensures

@@ -2,6 +2,7 @@
 use borrow.Author.Rules.{rules}
 use mathlib.Core.Path.{refl, ap, ◌∙◌}
 use mathlib.Core.Logic.{inl, inr}
+use native.Mathlib.Omega.{arith}
 use Rattle.messages.proofs.Rows.{unread_row, unread_empty, unread_length, unread_kind}
 use Rattle.messages.specs.Layouts.{length_of}
 use Rattle.messages.proofs.reader.read_fields.Goals as goal
@@ -60,12 +61,12 @@ returns-in_default c =
     let the-length-of = c.length_of in
     let the-if3 = c.if-bytes-length_of in
     unread_kind a.bytes.now a.fields.now _ _ (
-      λ e. (search rules) (inl e),
+      λ e. grind arith,
       (
-        (search rules),
+        λ e. omega arith,
         (
-          (search rules),
-          ((search rules), ((search rules), λ e. (search rules) (inr e))),
+          λ e. omega arith,
+          (λ e. omega arith, (λ e. omega arith, λ e. grind arith)),
         ),
       ),
     )

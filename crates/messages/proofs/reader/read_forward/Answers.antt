@@ -14,21 +14,21 @@ use Rattle.messages.proofs.reader.read_forward.Goals as goal
 
 pub byte_at-sender-requires : goal.byte_at-sender-requires
 unfolding length_of
-byte_at-sender-requires c = omega (arith, c.requires.1)
+byte_at-sender-requires c = omega (arith, c.requires.bytes_len)
 
 pub byte_at-index-requires : goal.byte_at-index-requires
 unfolding length_of
-byte_at-index-requires c = omega (arith, c.requires.1)
+byte_at-index-requires c = omega (arith, c.requires.bytes_len)
 
 pub view_at-view-requires : goal.view_at-view-requires
 unfolding length_of
-view_at-view-requires c = omega (arith, c.requires.1)
+view_at-view-requires c = omega (arith, c.requires.bytes_len)
 
 pub word_at-word-requires : goal.word_at-word-requires
 unfolding length_of
 word_at-word-requires c =
     let asked = c.requires in
-    omega (arith, asked.1)
+    omega (arith, asked.bytes_len)
 
 pub returns-then-not-place_fits : goal.returns-then-not-place_fits
 returns-then-not-place_fits c =
@@ -81,7 +81,7 @@ returns c =
     read_row a.bytes.now a.fields.now 4 the-of-forward.result asked.bytes_value
     (at_forward a.bytes.now 4 _ _ _ _ _ refl the-byte-at.ensures the-byte-at2.ensures
     the-view-at.ensures the-word-at.ensures the-of-forward.ensures)
-    the-give.new.fields.1.0 asked.fields_len asked.bytes_len
+    the-give.new.fields asked.fields_len asked.bytes_len
     (well_forward _ the-byte-at.result the-byte-at2.result the-word-at.result the-view-at.result
     the-of-forward.ensures ∙ and_both (told_so _ _ (ap not the-if1.false) the-place-fits.ensures)
     (told_so _ _ (ap not the-if2.false) the-well-formed.ensures))

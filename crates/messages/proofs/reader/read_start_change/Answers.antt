@@ -9,11 +9,11 @@ use Rattle.messages.proofs.reader.read_start_change.Goals as goal
 
 pub number_at-number-requires : goal.number_at-number-requires
 unfolding length_of
-number_at-number-requires c = omega (arith, c.requires.1)
+number_at-number-requires c = omega (arith, c.requires.bytes_len)
 
 pub byte_at-set-requires : goal.byte_at-set-requires
 unfolding length_of
-byte_at-set-requires c = omega (arith, c.requires.1)
+byte_at-set-requires c = omega (arith, c.requires.bytes_len)
 
 pub returns : goal.returns
 returns c =
@@ -26,5 +26,5 @@ returns c =
     read_row a.bytes.now a.fields.now 5 the-of-start-change.result asked.bytes_value
     (at_start_change a.bytes.now 5 _ _ _ refl the-number-at.ensures the-byte-at.ensures
     the-of-start-change.ensures)
-    the-give.new.fields.1.0 asked.fields_len asked.bytes_len (well_start_change _ _ _ the-of-start-change.ensures)
+    the-give.new.fields asked.fields_len asked.bytes_len (well_start_change _ _ _ the-of-start-change.ensures)
     the-give.ensures

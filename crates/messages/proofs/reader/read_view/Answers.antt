@@ -43,7 +43,7 @@ returns c =
     let the-give = c.give in
     read_row a.bytes.now a.fields.now a.kind the-of-view.result asked.bytes_value
     (at_views a.bytes.now a.kind _ _ asked.fact the-view-at.ensures the-of-view.ensures)
-    the-give.new.fields.1.0 asked.fields_len asked.bytes_len
+    the-give.new.fields asked.fields_len asked.bytes_len
     (well_view _ a.kind the-view-at.result asked.fact the-of-view.ensures ∙ told_so _ _
     (ap not the-if1.false) the-well-formed.ensures)
     the-give.ensures

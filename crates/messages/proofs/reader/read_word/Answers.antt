@@ -9,7 +9,7 @@ use Rattle.messages.proofs.reader.read_word.Goals as goal
 
 pub word_at-requires : goal.word_at-requires
 unfolding length_of
-word_at-requires c = omega (arith, c.requires.1)
+word_at-requires c = omega (arith, c.requires.bytes_len)
 
 pub returns : goal.returns
 returns c =
@@ -19,5 +19,5 @@ returns c =
     let the-of-word = c.of_word in
     let the-give = c.give in
     read_row a.bytes.now a.fields.now 2 the-of-word.result asked.bytes_value
-    (at_word a.bytes.now 2 _ _ refl the-word-at.ensures the-of-word.ensures) the-give.new.fields.1.0
+    (at_word a.bytes.now 2 _ _ refl the-word-at.ensures the-of-word.ensures) the-give.new.fields
     asked.fields_len asked.bytes_len (well_word _ _ the-of-word.ensures) the-give.ensures

@@ -5,4 +5,4 @@ use Rattle.messages.proofs.take.cut_of.Goals as goal
 
 pub returns : goal.returns
 unfolding message_of
-returns c = rw c.Counts-of.ensures
+returns c = rw c.counts_of-counts.ensures

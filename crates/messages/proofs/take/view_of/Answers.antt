@@ -37,12 +37,12 @@ pub starts_of-starts-requires : goal.starts_of-starts-requires
 unfolding narrow_view
 starts_of-starts-requires c =
     let a = c.args in
-    let asked = c.requires in (
-      asked.fields_len,
-      and_right (ltb (get_or a.fields.now 7 0) 256) (narrow_starts a.fields.now)
+    let asked = c.requires in record {
+      fields_len = asked.fields_len;
+      fields_value = and_right (ltb (get_or a.fields.now 7 0) 256) (narrow_starts a.fields.now)
           (and_right (ltb (get_or a.fields.now 6 0) (2 ^ 32))
-          (ltb (get_or a.fields.now 7 0) 256 && narrow_starts a.fields.now) asked.fields_value),
-    )
+          (ltb (get_or a.fields.now 7 0) 256 && narrow_starts a.fields.now) asked.fields_value);
+    }
 
 pub returns : goal.returns
 unfolding message_of

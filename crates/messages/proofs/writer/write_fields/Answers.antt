@@ -16,12 +16,12 @@ returns-in_default c =
     let a = c.args in
     let the-if1 = c.if-fields-ne24 in
     unwritten_kind a.fields.now a.area.now the-if1.false (
-      λ e. (search rules) (inl e),
+      λ e. grind arith,
       (
-        (search rules),
+        λ e. omega arith,
         (
-          (search rules),
-          ((search rules), ((search rules), λ e. (search rules) (inr e))),
+          λ e. omega arith,
+          (λ e. omega arith, (λ e. omega arith, λ e. grind arith)),
         ),
       ),
     )

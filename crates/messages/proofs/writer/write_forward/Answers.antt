@@ -68,14 +68,14 @@ view_of-view-requires c =
     let the-numbers-fit = c.numbers_fit-numbers_ok in
     let the-cut-fits = c.cut_fits-cut_ok in
     let the-view-fits = c.view_fits-view_ok in
-    let the-if2 = c.if-not-numbers_ok-cut_ok in (
-      asked.fields_len,
-      view_narrow a.fields.now
+    let the-if2 = c.if-not-numbers_ok-cut_ok in record {
+      fields_len = asked.fields_len;
+      fields_value = view_narrow a.fields.now
           (fit_low a.fields.now
           (fit a.fields.now 4 (tested a.fields.now 4 asked.fields_value (omega arith) (omega arith))
           the-numbers-fit.result the-cut-fits.result the-view-fits.result the-numbers-fit.ensures
-          the-cut-fits.ensures the-view-fits.ensures (ap not the-if2.false))),
-    )
+          the-cut-fits.ensures the-view-fits.ensures (ap not the-if2.false)));
+    }
 
 pub returns : goal.returns
 unfolding message_of length_of

@@ -38,14 +38,14 @@ view_of-view-requires c =
     let asked = c.requires in
     let the-numbers-fit = c.numbers_fit-numbers_ok in
     let the-cut-fits = c.cut_fits-cut_ok in
-    let the-view-fits = c.view_fits-view_ok in (
-      asked.fields_len,
-      view_narrow a.fields.now
+    let the-view-fits = c.view_fits-view_ok in record {
+      fields_len = asked.fields_len;
+      fields_value = view_narrow a.fields.now
           (fit_low a.fields.now
           (fit a.fields.now 1 (tested_view a.fields.now a.kind asked.fields_value asked.fact)
           the-numbers-fit.result the-cut-fits.result the-view-fits.result the-numbers-fit.ensures
-          the-cut-fits.ensures the-view-fits.ensures (ap not c.if-not-numbers_ok-cut_ok.false))),
-    )
+          the-cut-fits.ensures the-view-fits.ensures (ap not c.if-not-numbers_ok-cut_ok.false)));
+    }
 
 pub returns : goal.returns
 unfolding message_of length_of

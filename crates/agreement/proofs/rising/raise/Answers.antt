@@ -1,0 +1,38 @@
+-- `rising::raise` meets its contract: the places passed are filled. Assumes nothing.
+use Rattle.below.proofs.Lists.{fills, filled_none}
+use Rattle.below.specs.Below.{fill_below}
+use mathlib.Core.Path.{◌≡◌, refl, ap}
+use Prim.Native.Nat.{◌≤◌, ◌-◌, max}
+use lib.ListN.{length, replicate, get_or}
+use Rattle.views.specs.Cuts.{count_of}
+use Rattle.agreement.specs.Tops.{higher}
+use borrow.Author.Rules.{rules}
+use Rattle.agreement.proofs.rising.raise.Goals as goal
+
+pub loop-r-init : goal.loop-r-init
+loop-r-init c = (search rules, (refl, filled_none _ 0 8))
+
+pub bounds-a-r : goal.bounds-a-r
+bounds-a-r c = search (rules, fills)
+
+pub bounds-b-r : goal.bounds-b-r
+bounds-b-r c = search (rules, fills)
+
+pub larger-requires : goal.larger-requires
+larger-requires c = search (rules, fills)
+
+pub bounds-counts-r : goal.bounds-counts-r
+bounds-counts-r c = search (rules, fills)
+
+pub overflow_add-r : goal.overflow_add-r
+overflow_add-r c = search (rules, fills)
+
+pub loop-r-smaller : goal.loop-r-smaller
+loop-r-smaller c = search (rules, fills)
+
+pub loop-r-preserved : goal.loop-r-preserved
+loop-r-preserved c = search (rules, fills)
+
+pub returns : goal.returns
+unfolding higher count_of
+returns c = ap (λ l. record { counts = l }) (search (rules, fills))
