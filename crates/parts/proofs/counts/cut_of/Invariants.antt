@@ -1,0 +1,19 @@
+-- `cut_of` meets its contract: the places passed are filled. Assumes nothing.
+use Rattle.below.specs.Below.{fill_below}
+use Rattle.below.proofs.Lists.{fills, filled_none, filled_end}
+use lib.ListN.{replicate}
+use mathlib.Core.Bool.{cond}
+use Rattle.views.specs.Sets.{has}
+use Rattle.marks.specs.Marks.{run_in}
+use Rattle.parts.specs.Counts.{cut_of}
+use Prim.Native.Nat.{◌≤◌, ◌-◌}
+use mathlib.Core.Path.{◌≡◌, refl}
+use lib.ListN.{length}
+use borrow.Author.Rules.{rules}
+use Rattle.parts.proofs.counts.cut_of.Given as goal
+
+abbrev pub invariant-loop-r : goal.invariant-loop-r
+invariant-loop-r l = (l.r ≤ 8) × ((length l.counts ≡ 8) × (l.counts ≡ fill_below (λ k. cond (has l.set k) (run_in l.m k) 0) (replicate 8 0) l.r))
+
+abbrev pub decreases-loop-r : goal.decreases-loop-r
+decreases-loop-r l = 8 - l.r
