@@ -48,12 +48,14 @@ verdict_given (c ∷ cs) h = go c.applies refl (verdict_given cs) h
 
 -- each that applies is above n
 applies_above : (cs : List Check) (n m : ℕ) → Rising n cs → Applies m cs → n < m
+applies_above [] n m r x = elim x [ ]
 applies_above (c ∷ cs) n m r (here e a) = rw (← e) r.0
 applies_above (c ∷ cs) n m r (there a) = omega (arith, r.0, applies_above cs c.number m r.1 a)
 
 -- and no lower number applies
 pub verdict_lowest : (cs : List Check) (n m : ℕ) → Rising n cs → Applies m cs → (verdict cs ≤ m) × (verdict cs ≡ 0 → ⊥)
 unfolding verdict
+verdict_lowest [] n m r x = elim x [ ]
 verdict_lowest (c ∷ cs) n m r (here e a) = (rw (a, e) (omega arith), λ z. let q : c.number ≡ 0 = rw a at z in omega (arith, r.0))
 verdict_lowest (c ∷ cs) n m r (there a) = go c.applies (verdict_lowest cs c.number m r.1 a)
   where

@@ -1,0 +1,6 @@
+-- `plain` meets its contract. Assumes nothing.
+use borrow.Author.Rules.{rules}
+use Rattle.endpoint.proofs.answers.plain.Goals as goal
+
+pub returns : goal.returns
+returns c = rw (c.apart-e.ensures, c.blank.ensures, c.none.ensures)
