@@ -1,6 +1,6 @@
 -- What holds of the numbers below n, for any n: all, none, how many, the largest, the run, the first; a thing done n times; a list filled, made or joined.
 -- Each takes what it asks of a number as a function. The laws are in proofs/. Assumes nothing.
-use Rattle.std.specs.Prelude.{ℕ, zero, suc, ◌+◌, max, Bool, true, false, ◌&&◌, not, cond, List, [], ◌∷◌, ◌++◌, set, get_or}
+use Rattle.std.specs.Prelude.{ℕ, zero, suc, ◌+◌, max, Bool, true, ◌&&◌, not, cond, List, [], ◌∷◌, ◌++◌, set, get_or}
 
 -- f holds at each number below n
 unfoldable pub all_below : (ℕ → Bool) → ℕ → Bool

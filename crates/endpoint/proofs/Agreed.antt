@@ -2,12 +2,11 @@
 -- Assumes nothing.
 use Prim.Native.Nat.{ℕ, ◌<◌}
 use native.Mathlib.Omega.{arith}
-use mathlib.Core.Bool.{Bool, true, false, not, cond, ◌&&◌}
-use mathlib.Core.List.{List, [], ◌∷◌}
-use mathlib.Core.Path.{◌≡◌, refl, sym, ap, ◌∙◌}
+use mathlib.Core.Bool.{Bool, true, false, not, cond}
+use mathlib.Core.List.{[], ◌∷◌}
+use mathlib.Core.Path.{◌≡◌, sym, ap, ◌∙◌}
 use lib.Dec.{leb}
-use lib.ListN.{length, get_or}
-use Rattle.below.specs.Below.{all_below}
+use lib.ListN.{get_or}
 use Rattle.below.proofs.All.{all_same}
 use Rattle.views.specs.Sets.{has}
 use Rattle.views.specs.Cuts.{count_of}
@@ -15,7 +14,7 @@ use Rattle.marks.specs.declared.Held.{Held}
 use Rattle.marks.specs.declared.Marks.{Marks}
 use Rattle.marks.specs.Held.{held_at}
 use Rattle.marks.specs.Marks.{held_in, row_of, no_marks}
-use Rattle.slots.specs.Slots.{slot_in, slot_of, held_word, marks_at}
+use Rattle.slots.specs.Slots.{slot_in, held_word}
 use Rattle.agreement.specs.declared.Agreement.{Agreement}
 use Rattle.agreement.specs.Agreement.{agreement, agrees, cut_in}
 use Rattle.agreement.specs.Named as Named
@@ -23,11 +22,10 @@ use Rattle.agreement.specs.Due as Due
 use Rattle.agreement.proofs.Passed.{counts_is, owes_same, lowest_same}
 use Rattle.parts.specs.Counts.{at_least}
 use Rattle.endpoint.specs.declared.EndPoint.{EndPoint}
-use Rattle.endpoint.specs.declared.InstallPlan.{InstallPlan}
 use Rattle.endpoint.specs.Ready.{ready, in_t, T, named_cut, agreed, unnamed}
 use Rattle.endpoint.specs.Due.{lowest_due, owes}
 use Rattle.endpoint.specs.Sound.{sound}
-use Rattle.endpoint.specs.Numbers.{Check, check, verdict}
+use Rattle.endpoint.specs.Numbers.{check, verdict}
 use Rattle.endpoint.specs.Install.{all_members, fewer, more, install_checks}
 use Rattle.endpoint.specs.Pass.{InstallPlanned}
 use Rattle.endpoint.proofs.Planning.{marks_is, first_applies, first_not}

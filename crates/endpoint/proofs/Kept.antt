@@ -1,23 +1,22 @@
 -- Every accepted step from a sound end-point, with any input, leaves a sound one; and a view that is spent stays so.
 -- So an end-point reached from a fresh one is never refused for being unsound. First that an accepted step passed each of its checks. Assumes nothing.
-use Prim.Native.Nat.{ℕ, suc, ◌+◌, ◌≤◌, ◌<◌}
+use Prim.Native.Nat.{ℕ, ◌≤◌, ◌<◌}
 use native.Mathlib.Omega.{arith}
 use mathlib.Core.Bool.{Bool, true, false, not, cond, ◌&&◌, ◌||◌}
 use mathlib.Core.List.{List, [], ◌∷◌}
 use mathlib.Core.Path.{◌≡◌, refl, sym, ap, subst, ◌∙◌}
 use lib.Dec.{eqb, ltb, leb}
 use lib.ListN.{length, get_or, set}
-use borrow.Author.Tests.{eqb-true, eqb-false, ltb-true, leb-true, eq-eqb, ne_eqb}
+use borrow.Author.Tests.{eqb-true, eqb-false, ltb-true, leb-true}
 use Rattle.below.proofs.Tests.{clash, not_is, is_not, and_both, and_left, and_right}
 use Rattle.views.specs.Sets.{has}
 use Rattle.views.specs.Views.{start_of, view_ok, same}
-use Rattle.views.specs.Cuts.{cut_ok}
 use Rattle.views.specs.declared.View.{View}
 use Rattle.messages.specs.declared.Message.{Message}
-use Rattle.messages.specs.Layouts.{has_view, has_cut, place_fits, view_fits, cut_set, well_formed}
-use Rattle.messages.proofs.Tested.{PartsFit, parts_fit, kind_fits}
+use Rattle.messages.specs.Layouts.{well_formed}
+use Rattle.messages.proofs.Tested.{PartsFit, parts_fit}
 use Rattle.records.specs.Records.{holds_record, newest, record_ok}
-use Rattle.slots.specs.Slots.{held_word, has_free}
+use Rattle.slots.specs.Slots.{held_word}
 use Rattle.endpoint.specs.declared.EndPoint.{EndPoint}
 use Rattle.endpoint.specs.declared.Answer.{Answer}
 use Rattle.endpoint.specs.State.{with_heard, is_pending, is_blocked}
@@ -25,12 +24,12 @@ use Rattle.endpoint.specs.Fresh.{fresh}
 use Rattle.endpoint.specs.Spent.{spent}
 use Rattle.endpoint.specs.Numbers.{Check, verdict}
 use Rattle.endpoint.specs.Sound.{heard_from, sound}
-use Rattle.endpoint.specs.Application.{unfit, own_run, send_checks, block_ok_checks, after_send, after_block_ok}
+use Rattle.endpoint.specs.Application.{unfit, own_run, send_checks, after_send, after_block_ok}
 use Rattle.endpoint.specs.Membership.{start_checks, membership_checks, after_start, after_membership}
-use Rattle.endpoint.specs.Receive.{unreceivable, needs_slot, live, next_word, store_word, view_checks, word_checks, sync_checks, forward_checks, carried, by_kind, receive_checks, after_view, after_word, after_sync, after_forward, after_receive}
+use Rattle.endpoint.specs.Receive.{unreceivable, live, next_word, store_word, view_checks, word_checks, sync_checks, forward_checks, receive_checks, after_view, after_word, after_sync, after_forward, after_receive}
 use Rattle.endpoint.specs.Ready.{ready}
 use Rattle.endpoint.specs.Due.{lowest_due}
-use Rattle.endpoint.specs.Change.{ask_checks, declare_checks, announce_checks, pass_checks, sync_out_checks, announces, passes, syncs, after_ask, after_declare}
+use Rattle.endpoint.specs.Change.{pass_checks, sync_out_checks, announces, passes, syncs, after_ask, after_declare}
 use Rattle.endpoint.specs.Forward.{forward_out_checks, forwards}
 use Rattle.endpoint.specs.Give.{next_given, nothing_next, give_checks, gives_next}
 use Rattle.endpoint.specs.Install.{install_checks, after_install}

@@ -1,18 +1,14 @@
 -- Sound by its clauses, and an end-point of the code's types: what each step's proof of soundness starts from and has to give. Assumes nothing.
-use Prim.Native.Nat.{ℕ, ◌+◌, ◌≤◌, ◌<◌}
-use native.Mathlib.Omega.{arith}
-use mathlib.Core.Bool.{Bool, true, false, not, cond, ◌&&◌, ◌||◌}
-use mathlib.Core.List.{List}
-use mathlib.Core.Path.{◌≡◌, refl, sym, ap, ◌∙◌}
+use Prim.Native.Nat.{ℕ, ◌≤◌, ◌<◌}
+use mathlib.Core.Bool.{Bool, true, false, ◌&&◌, ◌||◌}
+use mathlib.Core.Path.{◌≡◌, refl}
 use lib.Dec.{eqb, leb}
 use lib.ListN.{length, get_or}
 use borrow.Author.Tests.{leb-true, le-leb, eqb-true}
-use Rattle.below.specs.Below.{all_below}
 use Rattle.below.proofs.Tests.{clash, and_both, and_left, and_right}
 use Rattle.below.proofs.All.{all_each, all_of}
 use Rattle.records.proofs.Store as Records
 use Rattle.slots.proofs.Finding as Slots
-use Rattle.agreement.specs.declared.Row.{Row}
 use Rattle.endpoint.specs.declared.EndPoint.{EndPoint}
 use Rattle.agreement.specs.Due.{no_marks}
 use Rattle.endpoint.specs.Sound.{all_others, flags_ok, views_ok, own_member, counts_ok, records_ok, slots_ok, heard_ok, given_ok, sound}

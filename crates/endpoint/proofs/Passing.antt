@@ -1,10 +1,9 @@
 -- Sound in one pass is sound: the parts that the code asks for say each clause, and each clause says them. Assumes nothing.
-use Prim.Native.Nat.{ℕ, ◌≤◌, ◌<◌}
+use Prim.Native.Nat.{ℕ}
 use native.Mathlib.Omega.{arith}
-use mathlib.Core.Bool.{Bool, true, false, not, cond, ◌&&◌, ◌||◌}
-use mathlib.Core.List.{List}
-use mathlib.Core.Path.{◌≡◌, refl, sym, ap, ◌∙◌}
-use lib.Dec.{eqb, ltb, leb}
+use mathlib.Core.Bool.{Bool, true, not, ◌&&◌, ◌||◌}
+use mathlib.Core.Path.{◌≡◌, refl}
+use lib.Dec.{eqb, leb}
 use lib.ListN.{get_or}
 use borrow.Author.Tests.{leb-true, le-leb}
 use Rattle.below.specs.Below.{all_below}
@@ -12,16 +11,13 @@ use Rattle.below.proofs.Tests.{both, and_both, and_left, and_right}
 use Rattle.below.proofs.All.{all_each, all_of}
 use Rattle.views.specs.declared.View.{View}
 use Rattle.views.specs.Sets.{has}
-use Rattle.views.specs.Views.{initial, view_ok, same}
-use Rattle.marks.specs.Marks.{run_in, no_marks as no_words}
+use Rattle.views.specs.Views.{view_ok, same}
 use Rattle.records.specs.Records.{records_fit}
 use Rattle.slots.specs.Slots as Slots
 use Rattle.slots.specs.Slots.{tag_at, marks_at, used, slot_in, slot_of, has_slot, run, all_used, slots_differ, no_gaps}
-use Rattle.slots.specs.Spent.{spent_by}
 use Rattle.slots.specs.Fit.{slots_fit}
 use Rattle.slots.proofs.Finding.{run_low}
 use Rattle.slots.proofs.Sound.{fit_parts}
-use Rattle.slots.proofs.Tags.{slot_in_lem}
 use Rattle.agreement.specs.Due.{forward_mark}
 use Rattle.parts.specs.Others.{placed, other_fits, others_fit}
 use Rattle.parts.specs.Counts.{row_fits, rows_fit, given_fit}

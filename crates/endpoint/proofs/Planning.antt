@@ -3,12 +3,12 @@
 -- Assumes nothing.
 use Prim.Native.Nat.{ℕ, ◌+◌, ◌≤◌, ◌<◌}
 use native.Mathlib.Omega.{arith}
-use mathlib.Core.Bool.{Bool, true, false, not, cond, ◌&&◌, ◌||◌}
+use mathlib.Core.Bool.{Bool, true, false, not, ◌&&◌, ◌||◌}
 use mathlib.Core.List.{List, [], ◌∷◌}
 use mathlib.Core.Path.{◌≡◌, refl, sym, ap, ◌∙◌}
 use lib.Dec.{eqb, ltb, leb}
 use lib.ListN.{length, get_or}
-use borrow.Author.Tests.{leb-true, le-leb, eqb-true, eq-eqb}
+use borrow.Author.Tests.{leb-true, eqb-true, eq-eqb}
 use Rattle.below.specs.Below as Below
 use Rattle.below.proofs.Tests.{clash, is_not, and_left, and_right}
 use Rattle.below.proofs.All.{all_each}
@@ -30,8 +30,8 @@ use Rattle.endpoint.specs.Application.{unfit, own_run, send_checks}
 use Rattle.endpoint.specs.Change.{own_cut}
 use Rattle.endpoint.specs.Spent.{spent}
 use Rattle.endpoint.specs.Pass.{Planned}
-use Rattle.endpoint.specs.Sound.{sound, all_others, counts_ok, slots_ok, given_ok}
-use Rattle.endpoint.proofs.Parts.{Parts, parts_of, others_each}
+use Rattle.endpoint.specs.Sound.{sound, slots_ok, given_ok}
+use Rattle.endpoint.proofs.Parts.{parts_of}
 
 -- ---- tables
 

@@ -21,7 +21,7 @@ use Rattle.marks.specs.Marks.{held_in, no_marks}
 use Rattle.records.specs.declared.Records.{Records}
 use Rattle.records.specs.Records.{newest, store_record}
 use Rattle.slots.specs.declared.Slots.{Slots}
-use Rattle.slots.specs.Slots.{place, slot_in, slot_of, has_slot, free_in, has_free, taken, mark_in, all_used, slots_differ, no_gaps}
+use Rattle.slots.specs.Slots.{place, slot_in, slot_of, has_slot, free_in, has_free, taken, mark_in}
 use Rattle.slots.specs.Spent.{spent_by}
 use Rattle.slots.proofs.Elements.{any}
 use Rattle.slots.proofs.Finding.{slot_of_lem, slot_same}
@@ -34,8 +34,8 @@ use Rattle.endpoint.specs.declared.ViewPlan.{ViewPlan}
 use Rattle.endpoint.specs.declared.WordPlan.{WordPlan}
 use Rattle.endpoint.specs.State.{with_slots, with_heard, with_records, is_pending}
 use Rattle.endpoint.specs.Spent.{spent}
-use Rattle.endpoint.specs.Numbers.{Check, check, verdict, accepted, refused_with, settle, settle_area}
-use Rattle.endpoint.specs.Sound.{heard_from, all_others, sound, counts_ok, slots_ok, heard_ok}
+use Rattle.endpoint.specs.Numbers.{Check, verdict, accepted, refused_with, settle, settle_area}
+use Rattle.endpoint.specs.Sound.{heard_from, all_others, counts_ok, heard_ok}
 use Rattle.endpoint.specs.Application.{unfit}
 use Rattle.endpoint.specs.Receive.{unreceivable, other_word, store_word, store_area, needs_slot, view_checks, after_view, next_word, live, word_checks, after_word, area_after_word, sync_checks, carried, after_sync, forward_checks, after_forward, area_after_forward, by_kind, receive_checks, after_receive, area_after_receive}
 use Rattle.endpoint.specs.Pass.{Receivable, view_plan, word_plan, forward_plan}

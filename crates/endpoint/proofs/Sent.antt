@@ -2,7 +2,7 @@
 -- A step that sends nothing gives a message of no kind. Assumes nothing.
 use Prim.Native.Nat.{ℕ, ◌≤◌, ◌<◌}
 use native.Mathlib.Omega.{arith}
-use mathlib.Core.Bool.{Bool, true, false, not, ◌&&◌, ◌||◌}
+use mathlib.Core.Bool.{Bool, true, false, not, ◌||◌}
 use mathlib.Core.List.{List}
 use mathlib.Core.Path.{◌≡◌, refl, sym, ap, subst, ◌∙◌}
 use lib.Dec.{eqb, ltb, leb}
@@ -15,7 +15,6 @@ use Rattle.views.specs.Cuts.{cut_ok, no_cut}
 use Rattle.views.specs.Views.{all_zero, view_ok}
 use Rattle.views.specs.declared.View.{View}
 use Rattle.views.specs.declared.Cut.{Cut}
-use Rattle.messages.specs.declared.Message.{Message}
 use Rattle.messages.specs.Messages.{of_view, of_word, of_sync, of_forward}
 use Rattle.messages.specs.Layouts.{blank_view, fields_fit, well_formed}
 use Rattle.endpoint.specs.declared.EndPoint.{EndPoint}

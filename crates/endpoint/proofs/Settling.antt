@@ -8,7 +8,7 @@ use lib.Dec.{eqb}
 use borrow.Author.Tests.{eq-eqb, ne_eqb, eqb-true}
 use Rattle.endpoint.specs.declared.EndPoint.{EndPoint}
 use Rattle.endpoint.specs.declared.Answer.{Answer}
-use Rattle.endpoint.specs.Numbers.{Check, check, verdict, settle, settle_area, refused_with, accepted}
+use Rattle.endpoint.specs.Numbers.{Check, verdict, settle, settle_area, refused_with, accepted}
 use Rattle.endpoint.specs.Steps.{Event, checks, effect, stored, step, area_after}
 
 -- ---- over any table

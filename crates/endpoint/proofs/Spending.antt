@@ -2,15 +2,14 @@
 use Prim.Native.Nat.{ℕ, ◌≤◌, ◌<◌}
 use native.Mathlib.Omega.{arith}
 use mathlib.Core.Bool.{Bool, true, false, not, ◌&&◌, ◌||◌}
-use mathlib.Core.List.{List}
 use mathlib.Core.Logic.{◌⊎◌, inl, inr, ⊎_elim}
-use mathlib.Core.Path.{◌≡◌, refl, sym, ap, ◌∙◌}
+use mathlib.Core.Path.{◌≡◌, refl, ap, ◌∙◌}
 use lib.Dec.{eqb, ltb, leb}
-use borrow.Author.Tests.{eqb-true, ltb-true, leb-true, eq-eqb, lt-ltb, le-leb, le-ltb, lt-leb, ne_eqb}
+use borrow.Author.Tests.{eqb-true, ltb-true, leb-true, eq-eqb, lt-ltb, le-leb}
 use Rattle.below.proofs.Tests.{clash, not_is, not_no, and_both, and_left, and_right}
 use Rattle.views.specs.declared.View.{View}
 use Rattle.views.specs.Views.{start_of, same}
-use Rattle.views.proofs.Sameness.{Same, same_parts, same_left}
+use Rattle.views.proofs.Sameness.{same_parts, same_left}
 use Rattle.slots.specs.Spent.{spent_by}
 
 -- ---- as a proposition

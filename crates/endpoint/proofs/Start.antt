@@ -1,9 +1,9 @@
 -- A fresh end-point is sound, for each of the eight numbers, and of the code's types, by computation. Assumes nothing.
-use Prim.Native.Nat.{ℕ, zero, suc, ◌≤◌, ◌<◌}
+use Prim.Native.Nat.{ℕ, zero, suc, ◌≤◌}
 use native.Mathlib.Omega.{arith}
 use mathlib.Core.Bool.{true}
 use mathlib.Core.Path.{◌≡◌, refl, ap}
-use lib.ListN.{length, get_or, get_or-replicate}
+use lib.ListN.{length, get_or-replicate}
 use Rattle.below.specs.Below.{first_below, run_below, run_from}
 use Rattle.views.specs.Views.{initial}
 use Rattle.slots.specs.Slots.{marks_at, taken, no_slots, free_slot, used, tag_at}

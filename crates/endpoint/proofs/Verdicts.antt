@@ -3,18 +3,15 @@
 --   checks-rise : the table of each of the thirteen steps rises.
 --   refused-keeps, accepted-effect : what a refused and an accepted step leave, by one lemma over the table.
 -- Assumes nothing.
-use Prim.Native.Nat.{ℕ, suc, ◌≤◌, ◌<◌}
+use Prim.Native.Nat.{ℕ, ◌≤◌, ◌<◌}
 use native.Mathlib.Omega.{arith}
 use mathlib.Core.Bool.{Bool, true, false, cond}
 use mathlib.Core.List.{List, [], ◌∷◌}
-use mathlib.Core.Path.{◌≡◌, refl, sym, ap, ◌∙◌}
+use mathlib.Core.Path.{◌≡◌, refl, sym, ◌∙◌}
 use lib.Dec.{eqb, lit<}
 use borrow.Author.Tests.{eq-eqb, ne_eqb, eqb-true}
-use Rattle.below.proofs.Tests.{clash}
-use Rattle.messages.specs.declared.Message.{Message}
 use Rattle.endpoint.specs.declared.EndPoint.{EndPoint}
-use Rattle.endpoint.specs.declared.Answer.{Answer}
-use Rattle.endpoint.specs.Numbers.{Check, check, verdict, settle, settle_area}
+use Rattle.endpoint.specs.Numbers.{Check, verdict, settle, settle_area}
 use Rattle.endpoint.specs.Application.{send_checks, block_ok_checks}
 use Rattle.endpoint.specs.Membership.{start_checks, membership_checks}
 use Rattle.endpoint.specs.Receive.{view_checks, word_checks, sync_checks, forward_checks, by_kind, receive_checks}

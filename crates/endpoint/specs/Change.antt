@@ -1,5 +1,5 @@
 -- The end-point's own steps on the way to a change: ask to block, declare, announce, pass out, sync. Assumes nothing.
-use Rattle.std.specs.Prelude.{ℕ, ◌+◌, Bool, not, cond, ◌||◌, ◌&&◌, List, [], ◌∷◌, ltb, get_or}
+use Rattle.std.specs.Prelude.{ℕ, ◌+◌, not, cond, ◌&&◌, List, [], ◌∷◌, ltb, get_or}
 use Rattle.below.specs.Below.{list_below}
 use Rattle.views.specs.Sets.{has, within, joined, less}
 use Rattle.views.specs.declared.Cut.{Cut}

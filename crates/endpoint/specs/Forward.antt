@@ -1,5 +1,5 @@
 -- "Forward (q, r)". Assumes nothing.
-use Rattle.std.specs.Prelude.{ℕ, ◌+◌, Bool, not, ◌||◌, List, [], ◌∷◌, leb, ltb, get_or, set}
+use Rattle.std.specs.Prelude.{ℕ, ◌+◌, not, ◌||◌, List, [], ◌∷◌, leb, ltb, get_or, set}
 use Rattle.views.specs.Sets.{only}
 use Rattle.messages.specs.Messages.{of_forward}
 use Rattle.slots.specs.Slots.{place, slot_of}

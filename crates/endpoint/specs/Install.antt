@@ -1,5 +1,5 @@
 -- "Install". Assumes nothing.
-use Rattle.std.specs.Prelude.{ℕ, Bool, true, false, not, cond, List, [], ◌∷◌, ltb, leb, get_or, replicate}
+use Rattle.std.specs.Prelude.{ℕ, Bool, true, false, not, cond, List, [], ◌∷◌, leb, get_or, replicate}
 use Rattle.below.specs.Below.{all_below}
 use Rattle.views.specs.Sets.{has}
 use Rattle.slots.specs.declared.Slots.{Slots}

@@ -1,5 +1,5 @@
 -- The membership service's steps: start change, membership view. Assumes nothing.
-use Rattle.std.specs.Prelude.{ℕ, Bool, true, not, ◌||◌, ◌&&◌, List, [], ◌∷◌, eqb, ltb, replicate}
+use Rattle.std.specs.Prelude.{ℕ, true, not, ◌||◌, ◌&&◌, List, [], ◌∷◌, eqb, ltb, replicate}
 use Rattle.views.specs.Sets.{has, within}
 use Rattle.views.specs.declared.View.{View}
 use Rattle.views.specs.Views.{start_of, view_ok}

@@ -1,5 +1,5 @@
 -- "Sound." Each clause of the paragraph is a line. p's own entries of heard and received are no part of what it remembers. Assumes nothing.
-use Rattle.std.specs.Prelude.{ℕ, Bool, true, not, cond, ◌&&◌, ◌||◌, eqb, leb, get_or}
+use Rattle.std.specs.Prelude.{ℕ, Bool, not, ◌&&◌, ◌||◌, eqb, leb, get_or}
 use Rattle.below.specs.Below.{all_below}
 use Rattle.views.specs.Sets.{has}
 use Rattle.views.specs.declared.View.{View}

@@ -2,12 +2,12 @@
 -- them, and 2 had accepted one more. So demand 3 speaks of this run, and what it says of it holds. Assumes nothing.
 use Prim.Native.Nat.{ℕ}
 use mathlib.Core.Bool.{true, false, true≢false}
-use mathlib.Core.List.{List, [], ◌∷◌, ◌++◌}
+use mathlib.Core.List.{[], ◌∷◌, ◌++◌}
 use mathlib.Core.Path.{◌≡◌, refl, ap, sym, ◌∙◌}
 use lib.ListN.{get_or, take as first_of}
 use Rattle.group.specs.Group.{all_fit, start, run}
 use Rattle.group.specs.Demand3.{Demand3, Moved, Agreed}
-use Rattle.group.specs.WingRack.{Told, told, rack_areas, rack_logs, three, two, all_enter, words_pass, wing_rack_drops, rack_dropped, not_forwarded, seen}
+use Rattle.group.specs.WingRack.{told, rack_areas, rack_logs, three, two, all_enter, words_pass, wing_rack_drops, rack_dropped, not_forwarded, seen}
 use Rattle.group.specs.Opened.{opened}
 
 pub areas_fit : all_fit rack_areas ≡ true

@@ -3,7 +3,6 @@
 use Rattle.std.specs.Prelude.{ℕ, ◌+◌, ◌^◌, Bool, cond, ◌&&◌, List, [], ◌∷◌, ◌++◌, eqb, ltb, length, get_or}
 use Rattle.below.specs.Below.{all_below, list_below}
 use Rattle.messages.specs.declared.Message.{Message}
-use Rattle.messages.specs.declared.Reading.{Reading}
 use Rattle.messages.specs.Codec.{reads, read_of, write_number, written}
 
 abbrev pub numbers_of : Message → List ℕ

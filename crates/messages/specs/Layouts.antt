@@ -1,7 +1,7 @@
 -- The layouts: which parts each kind has, in the order in which they stand; a message's bytes and their number; when a message is well formed.
 -- 1 view: view. 2 word: word. 3 sync: number, view, cut. 4 forward: sender, index, view, word. 5 start change: number, set. 6 membership view: view.
 -- Assumes nothing; the fields' ranges are the code's types.
-use Rattle.std.specs.Prelude.{ℕ, ◌+◌, Bool, true, cond, ◌&&◌, ◌||◌, List, [], ◌∷◌, ◌++◌, eqb, leb, get_or}
+use Rattle.std.specs.Prelude.{ℕ, Bool, true, cond, ◌&&◌, ◌||◌, List, [], ◌∷◌, ◌++◌, eqb, leb, get_or}
 use Rattle.views.specs.Views.{all_zero, view_ok}
 use Rattle.views.specs.Cuts.{cut_ok}
 use Rattle.views.specs.declared.View.{View}

@@ -4,7 +4,6 @@ use mathlib.Core.Path.{◌≡◌, sym, ap, ◌∙◌}
 use lib.ListN.{take as first_of}
 use Rattle.automaton.proofs.Theorem.{virtual_synchrony}
 use Rattle.views.specs.declared.View.{View}
-use Rattle.views.specs.Views.{same}
 use Rattle.group.specs.Group.{Group, start, run}
 use Rattle.group.specs.Logs.{Logs, no_logs, logs_from, logs}
 use Rattle.group.specs.Demand3.{Demand3, Moved, Agreed}

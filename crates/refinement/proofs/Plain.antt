@@ -8,7 +8,7 @@ use mathlib.Core.Option.{some}
 use mathlib.Core.Path.{◌≡◌, refl, sym, ap, ◌∙◌, subst}
 use mathlib.Core.Logic.{inl}
 use lib.Dec.{eqb, ltb, leb}
-use lib.ListN.{get_or, set, replicate}
+use lib.ListN.{get_or, replicate}
 use lib.Seq.{get_or-set_same, get_or-set_other}
 use borrow.Author.Tests.{eqb-true, eqb-false, eq-eqb, leb-true, ltb-true}
 use Rattle.below.proofs.Tests.{clash, is_not, not_is, and_both, and_left, and_right}

@@ -28,7 +28,7 @@ use Rattle.endpoint.specs.Steps.{receive, effect, stored}
 use Rattle.endpoint.proofs.Parts.{Parts, Shaped, others_each}
 use Rattle.endpoint.proofs.Kept.{Passed}
 use Rattle.group.specs.Group.{put}
-use Rattle.group.specs.Logs.{Log, moves, entry}
+use Rattle.group.specs.Logs.{Log, entry}
 use Rattle.refinement.specs.Views.{normal, views}
 use Rattle.refinement.specs.Abstract.{Ghost, state, label, message, word_in, seen}
 use Rattle.refinement.proofs.Sameness.{same_normal}

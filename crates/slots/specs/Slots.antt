@@ -3,7 +3,7 @@
 use Rattle.std.specs.Prelude.{ℕ, ◌+◌, ◌-◌, ◌*◌, Bool, true, not, cond, ◌&&◌, List, eqb, ltb, get_or, set, replicate}
 use Rattle.below.specs.Below.{all_below, first_below, each_below}
 use Rattle.views.specs.declared.View.{View}
-use Rattle.views.specs.Views.{no_view, view_ok, same}
+use Rattle.views.specs.Views.{no_view, same}
 use Rattle.marks.specs.declared.Marks.{Marks}
 use Rattle.marks.specs.Marks.{held_in, run_in, no_gap_in, marked_in, no_marks}
 use Rattle.slots.specs.declared.Tag.{Tag}

@@ -1,6 +1,5 @@
 -- `bit_at` meets its contract: the shift and the remainder are `bit` itself. Assumes nothing.
 use mathlib.Core.Path.{refl}
-use borrow.Author.Rules.{rules}
 use Rattle.below.specs.Bits.{bit}
 use Rattle.marks.proofs.bit_at.Goals as goal
 

@@ -1,5 +1,4 @@
 -- `cleared` meets its contract: eight rows of none. Assumes nothing.
-use borrow.Author.Rules.{rules}
 use Rattle.marks.proofs.cleared.Goals as goal
 
 pub returns : goal.returns

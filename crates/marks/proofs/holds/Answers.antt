@@ -1,5 +1,4 @@
 -- `holds` meets its contract, by what `row_of` and `is_held` give. Assumes nothing.
-use borrow.Author.Rules.{rules}
 use Rattle.marks.specs.Marks.{held_in}
 use Rattle.marks.proofs.holds.Goals as goal
 

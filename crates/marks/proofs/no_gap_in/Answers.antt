@@ -1,6 +1,5 @@
 -- `no_gap_in` meets its contract, by what `row_of` and `no_gap` give. Assumes nothing.
 use mathlib.Core.Path.{ap, ◌∙◌}
-use borrow.Author.Rules.{rules}
 use Rattle.marks.specs.Held.{no_gap}
 use Rattle.marks.specs.Marks.{no_gap_in}
 use Rattle.marks.proofs.no_gap_in.Goals as goal

@@ -1,6 +1,5 @@
 -- `run_in` meets its contract, by what `row_of` and `run` give. Assumes nothing.
 use mathlib.Core.Path.{ap, ◌∙◌}
-use borrow.Author.Rules.{rules}
 use Rattle.marks.specs.Held.{run_of}
 use Rattle.marks.specs.Marks.{run_in}
 use Rattle.marks.proofs.run_in.Goals as goal

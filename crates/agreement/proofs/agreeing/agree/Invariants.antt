@@ -1,19 +1,11 @@
 -- `agreeing::agree` meets its contract: the numbers passed are copied; then the members passed are in the four parts of the answer. Assumes nothing.
 use Prim.Native.Nat.{◌≤◌, ◌-◌}
-use native.Mathlib.Omega.{arith}
-use mathlib.Core.Path.{◌≡◌, refl, ap, ◌∙◌}
-use lib.ListN.{length, get_or, replicate, length-set}
+use mathlib.Core.Path.{◌≡◌}
+use lib.ListN.{length, get_or, replicate}
 use Rattle.below.specs.Below.{fill_below}
-use Rattle.below.proofs.Lists.{filled_none, filled_more, filled_end}
-use Rattle.views.specs.Views.{start_of}
-use Rattle.records.specs.Records.{no_record, record_count, find_record}
-use Rattle.records.proofs.Past.{read_at}
-use Rattle.marks.proofs.Slot.{array_length}
+use Rattle.records.specs.Records.{no_record}
 use Rattle.agreement.specs.Pass.{part_of}
-use Rattle.agreement.proofs.Rows.{read_any}
-use Rattle.agreement.proofs.Passed.{find_is, part_at_lem}
-use Rattle.agreement.proofs.Going.{Going, going_start, going_more, going_end}
-use borrow.Author.Rules.{rules}
+use Rattle.agreement.proofs.Going.{Going}
 use Rattle.agreement.proofs.agreeing.agree.Given as goal
 
 abbrev pub invariant-loop-i : goal.invariant-loop-i

@@ -1,5 +1,4 @@
 -- `agreeing::apart` meets its contract: the cut is none. Assumes nothing.
-use borrow.Author.Rules.{rules}
 use Rattle.agreement.proofs.agreeing.apart.Goals as goal
 
 pub returns : goal.returns

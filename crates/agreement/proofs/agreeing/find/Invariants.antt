@@ -1,13 +1,10 @@
 -- `agreeing::find` meets its contract: no number before k is this one. Assumes nothing.
 use Prim.Native.Nat.{◌≤◌, ◌-◌, ◌+◌, ◌*◌}
-use mathlib.Core.Path.{◌≡◌, refl, sym}
-use mathlib.Core.Bool.{true, false}
+use mathlib.Core.Path.{◌≡◌}
+use mathlib.Core.Bool.{true}
 use lib.Dec.{eqb}
 use Rattle.below.specs.Below.{none_below}
-use Rattle.below.proofs.Tests.{told_eq, told_ne}
-use Rattle.below.proofs.Run.{find_none, find_stop, find_more, find_end}
 use Rattle.agreement.specs.Pass.{number_at}
-use borrow.Author.Rules.{rules}
 use Rattle.agreement.proofs.agreeing.find.Given as goal
 
 abbrev pub invariant-loop-k : goal.invariant-loop-k

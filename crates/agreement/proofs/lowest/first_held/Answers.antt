@@ -1,9 +1,6 @@
 -- `lowest::first_held` meets its contract: no word before k counts. Assumes nothing.
-use mathlib.Core.Path.{◌≡◌, sym, ◌∙◌}
-use mathlib.Core.Bool.{true}
-use Prim.Native.Nat.{◌≤◌, ◌-◌}
+use mathlib.Core.Path.{sym, ◌∙◌}
 use native.Mathlib.Omega.{arith}
-use Rattle.below.specs.Below.{none_below}
 use Rattle.below.proofs.Run.{find_stop, find_more}
 use Rattle.marks.specs.Held.{held_at}
 use Rattle.agreement.specs.Spans.{spanned}

@@ -1,14 +1,10 @@
 -- `lowest::first_held` meets its contract: no word before k counts. Assumes nothing.
-use mathlib.Core.Path.{◌≡◌, sym, ◌∙◌}
+use mathlib.Core.Path.{◌≡◌}
 use mathlib.Core.Bool.{true}
 use Prim.Native.Nat.{◌≤◌, ◌-◌}
-use native.Mathlib.Omega.{arith}
 use Rattle.below.specs.Below.{none_below}
-use Rattle.below.proofs.Run.{find_stop, find_more}
 use Rattle.marks.specs.Held.{held_at}
 use Rattle.agreement.specs.Spans.{spanned}
-use Rattle.agreement.proofs.Found.{span_none, span_here, span_end}
-use borrow.Author.Rules.{rules}
 use Rattle.agreement.proofs.lowest.first_held.Given as goal
 
 abbrev pub invariant-loop-k : goal.invariant-loop-k

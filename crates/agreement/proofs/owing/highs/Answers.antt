@@ -1,11 +1,6 @@
 -- `owing::highs` meets its contract: the places passed are filled. Assumes nothing.
 use Rattle.below.proofs.Lists.{fills, filled_none}
-use Rattle.below.specs.Below.{fill_below}
-use mathlib.Core.Path.{◌≡◌, refl, ap}
-use mathlib.Core.Bool.{cond, not, ◌&&◌}
-use Prim.Native.Nat.{◌≤◌, ◌-◌, min}
-use lib.ListN.{length, replicate, get_or}
-use Rattle.views.specs.Sets.{has}
+use mathlib.Core.Path.{refl, ap}
 use Rattle.views.specs.Cuts.{count_of}
 use Rattle.agreement.specs.Spans.{highs}
 use borrow.Author.Rules.{rules}

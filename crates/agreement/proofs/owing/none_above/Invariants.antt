@@ -1,12 +1,9 @@
 -- `owing::none_above` meets its contract: `ok` says all counts passed. Assumes nothing.
-use Rattle.below.proofs.All.{alls}
 use Rattle.below.specs.Below.{all_below}
 use mathlib.Core.Path.{◌≡◌}
 use Prim.Native.Nat.{◌≤◌, ◌-◌}
 use lib.ListN.{get_or}
 use lib.Dec.{leb}
-use Rattle.views.specs.Cuts.{count_of}
-use borrow.Author.Rules.{rules}
 use Rattle.agreement.proofs.owing.none_above.Given as goal
 
 abbrev pub invariant-loop-r : goal.invariant-loop-r

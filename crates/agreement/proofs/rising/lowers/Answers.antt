@@ -1,5 +1,4 @@
 -- `rising::lowers` meets its contract: the members passed are counted. Assumes nothing.
-use Prim.Native.Nat.{◌≤◌, ◌-◌}
 use mathlib.Core.Path.{◌≡◌, ap, ◌∙◌}
 use mathlib.Core.Bool.{cond}
 use native.Mathlib.Omega.{arith}
@@ -8,7 +7,7 @@ use Rattle.views.specs.Sets.{has}
 use Rattle.views.specs.Cuts.{no_cut}
 use Rattle.marks.proofs.Slot.{array_length}
 use Rattle.agreement.specs.Agreement.{agrees}
-use Rattle.agreement.specs.Tops.{tops, cut_or_none}
+use Rattle.agreement.specs.Tops.{cut_or_none}
 use Rattle.agreement.proofs.Rows.{read_any}
 use Rattle.agreement.proofs.Largest.{rises, tops_more}
 use borrow.Author.Rules.{rules}

@@ -1,9 +1,6 @@
 -- `rising::raise` meets its contract: the places passed are filled. Assumes nothing.
 use Rattle.below.proofs.Lists.{fills, filled_none}
-use Rattle.below.specs.Below.{fill_below}
-use mathlib.Core.Path.{◌≡◌, refl, ap}
-use Prim.Native.Nat.{◌≤◌, ◌-◌, max}
-use lib.ListN.{length, replicate, get_or}
+use mathlib.Core.Path.{refl, ap}
 use Rattle.views.specs.Cuts.{count_of}
 use Rattle.agreement.specs.Tops.{higher}
 use borrow.Author.Rules.{rules}

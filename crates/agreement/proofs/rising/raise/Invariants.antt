@@ -1,12 +1,8 @@
 -- `rising::raise` meets its contract: the places passed are filled. Assumes nothing.
-use Rattle.below.proofs.Lists.{fills, filled_none}
 use Rattle.below.specs.Below.{fill_below}
-use mathlib.Core.Path.{◌≡◌, refl, ap}
+use mathlib.Core.Path.{◌≡◌}
 use Prim.Native.Nat.{◌≤◌, ◌-◌, max}
 use lib.ListN.{length, replicate, get_or}
-use Rattle.views.specs.Cuts.{count_of}
-use Rattle.agreement.specs.Tops.{higher}
-use borrow.Author.Rules.{rules}
 use Rattle.agreement.proofs.rising.raise.Given as goal
 
 abbrev pub invariant-loop-r : goal.invariant-loop-r

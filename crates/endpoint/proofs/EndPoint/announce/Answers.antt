@@ -1,10 +1,9 @@
 -- `announce` meets its contract. Assumes nothing.
-use Rattle.endpoint.proofs.Settling.{refused, kept, done, put}
-use mathlib.Core.List.{[], ◌∷◌}
+use Rattle.endpoint.proofs.Settling.{refused, done}
+use mathlib.Core.List.{[]}
 use Rattle.endpoint.specs.Steps.{checks, effect, announce}
 use Rattle.endpoint.specs.Change.{announces}
-use mathlib.Core.Path.{◌≡◌, refl, sym, ap, ◌∙◌}
-use borrow.Author.Rules.{rules}
+use mathlib.Core.Path.{◌∙◌}
 use Rattle.endpoint.proofs.EndPoint.announce.Goals as goal
 
 pub announce_number-n-requires : goal.announce_number-n-requires

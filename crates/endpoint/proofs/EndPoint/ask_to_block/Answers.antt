@@ -1,11 +1,10 @@
 -- `ask_to_block` meets its contract. Assumes nothing.
-use Rattle.endpoint.proofs.Settling.{refused, kept, done, put}
-use mathlib.Core.List.{[], ◌∷◌}
+use Rattle.endpoint.proofs.Settling.{refused, done}
+use mathlib.Core.List.{[]}
 use Rattle.endpoint.specs.Steps.{checks, effect, ask_to_block}
 use Rattle.endpoint.specs.Numbers.{verdict}
 use Rattle.endpoint.specs.Change.{ask_checks, after_ask}
-use mathlib.Core.Path.{◌≡◌, refl, sym, ap, ◌∙◌}
-use borrow.Author.Rules.{rules}
+use mathlib.Core.Path.{refl, ◌∙◌}
 use Rattle.endpoint.proofs.EndPoint.ask_to_block.Goals as goal
 
 pub returns-then-number-ne0 : goal.returns-then-number-ne0

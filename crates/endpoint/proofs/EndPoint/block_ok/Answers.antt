@@ -1,11 +1,10 @@
 -- `block_ok` meets its contract. Assumes nothing.
-use Rattle.endpoint.proofs.Settling.{refused, kept, done, put}
-use mathlib.Core.List.{[], ◌∷◌}
+use Rattle.endpoint.proofs.Settling.{refused, done}
+use mathlib.Core.List.{[]}
 use Rattle.endpoint.specs.Steps.{checks, effect, block_ok}
 use Rattle.endpoint.specs.Numbers.{verdict}
 use Rattle.endpoint.specs.Application.{block_ok_checks, after_block_ok}
-use mathlib.Core.Path.{◌≡◌, refl, sym, ap, ◌∙◌}
-use borrow.Author.Rules.{rules}
+use mathlib.Core.Path.{refl, ◌∙◌}
 use Rattle.endpoint.proofs.EndPoint.block_ok.Goals as goal
 
 pub returns-then-number-ne0 : goal.returns-then-number-ne0

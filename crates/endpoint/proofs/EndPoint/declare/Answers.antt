@@ -1,13 +1,12 @@
 -- `declare` meets its contract. Assumes nothing.
 use native.Mathlib.Omega.{arith}
-use Rattle.endpoint.proofs.Settling.{refused, kept, done, put}
-use mathlib.Core.List.{[], ◌∷◌}
-use Rattle.below.proofs.Tests.{picks, told, told_so, told_not, not_is, is_not}
+use Rattle.endpoint.proofs.Settling.{refused, done}
+use mathlib.Core.List.{[]}
+use Rattle.below.proofs.Tests.{told_so, told_not}
 use Rattle.endpoint.specs.Numbers.{verdict}
 use Rattle.endpoint.specs.Steps.{checks, effect, declare}
 use Rattle.endpoint.specs.Change.{declare_checks, after_declare}
-use mathlib.Core.Path.{◌≡◌, refl, sym, ap, ◌∙◌}
-use borrow.Author.Rules.{rules}
+use mathlib.Core.Path.{refl, ap, ◌∙◌}
 use mathlib.Core.Bool.{not}
 use Rattle.endpoint.proofs.EndPoint.declare.Goals as goal
 

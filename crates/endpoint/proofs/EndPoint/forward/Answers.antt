@@ -1,9 +1,8 @@
 -- `forward` meets its contract. Assumes nothing.
-use Rattle.endpoint.proofs.Settling.{refused, kept, done, put}
+use Rattle.endpoint.proofs.Settling.{refused, done}
 use Rattle.endpoint.specs.Steps.{checks, effect, forward}
 use Rattle.endpoint.specs.Forward.{forwards, raised}
-use mathlib.Core.Path.{◌≡◌, refl, sym, ap, ◌∙◌}
-use borrow.Author.Rules.{rules}
+use mathlib.Core.Path.{sym, ◌∙◌}
 use Rattle.endpoint.proofs.EndPoint.forward.Goals as goal
 
 pub forward_plan-p-requires : goal.forward_plan-p-requires

@@ -2,8 +2,7 @@
 use Rattle.endpoint.specs.Numbers.{verdict}
 use Rattle.endpoint.specs.Steps.{fresh_step}
 use Rattle.endpoint.proofs.Settling.{itself}
-use mathlib.Core.Path.{◌≡◌, refl, sym, ap, ◌∙◌}
-use borrow.Author.Rules.{rules}
+use mathlib.Core.Path.{◌∙◌}
 use Rattle.endpoint.proofs.EndPoint.fresh.Goals as goal
 
 pub returns : goal.returns

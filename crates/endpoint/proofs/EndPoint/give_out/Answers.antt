@@ -6,7 +6,6 @@ use Rattle.endpoint.specs.Give.{give_checks, gives_next}
 use Rattle.endpoint.specs.Steps.{checks, effect, give_out}
 use Rattle.endpoint.proofs.Settling.{refused, done}
 use Rattle.endpoint.proofs.Planning.{none_applies, low_one}
-use borrow.Author.Rules.{rules}
 use Rattle.endpoint.proofs.EndPoint.give_out.Goals as goal
 use Rattle.endpoint.proofs.EndPoint.give_out.Goals.{then-p-eq0, else-p-eq0}
 

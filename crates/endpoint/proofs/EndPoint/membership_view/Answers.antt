@@ -1,10 +1,9 @@
 -- `membership_view` meets its contract. Assumes nothing.
-use Rattle.endpoint.proofs.Settling.{refused, kept, done, put}
-use mathlib.Core.List.{[], ◌∷◌}
+use Rattle.endpoint.proofs.Settling.{refused, done}
+use mathlib.Core.List.{[]}
 use Rattle.endpoint.specs.Steps.{checks, effect, membership_view}
 use Rattle.endpoint.specs.Membership.{after_membership}
-use mathlib.Core.Path.{◌≡◌, refl, sym, ap, ◌∙◌}
-use borrow.Author.Rules.{rules}
+use mathlib.Core.Path.{◌∙◌}
 use Rattle.endpoint.proofs.EndPoint.membership_view.Goals as goal
 
 pub membership_number-n-requires : goal.membership_number-n-requires

@@ -1,10 +1,8 @@
 -- `pass_out` meets its contract. Assumes nothing.
-use Rattle.endpoint.proofs.Settling.{refused, kept, done, put}
-use mathlib.Core.List.{[], ◌∷◌}
+use Rattle.endpoint.proofs.Settling.{refused, done}
 use Rattle.endpoint.specs.Steps.{checks, effect, pass_out}
 use Rattle.endpoint.specs.Change.{passes, own_next}
-use mathlib.Core.Path.{◌≡◌, refl, sym, ap, ◌∙◌}
-use borrow.Author.Rules.{rules}
+use mathlib.Core.Path.{sym, ◌∙◌}
 use Rattle.endpoint.proofs.EndPoint.pass_out.Goals as goal
 
 pub pass_plan-p-requires : goal.pass_plan-p-requires

@@ -1,7 +1,6 @@
 -- `EndPoint::receive` meets its contract: what each kind of message comes to is the step. Assumes nothing.
 use mathlib.Core.Path.{sym, ◌∙◌}
 use Rattle.endpoint.proofs.Receiving.{passes, receivable, kind_four, receive_no, receive_view_lem, receive_word_lem, receive_sync_lem, receive_forward_lem}
-use borrow.Author.Rules.{rules}
 use Rattle.endpoint.proofs.EndPoint.receive.Goals as goal
 
 pub unreceivable-requires : goal.unreceivable-requires

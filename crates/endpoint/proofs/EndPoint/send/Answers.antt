@@ -1,14 +1,11 @@
 -- `send` meets its contract. Assumes nothing.
 use Rattle.endpoint.proofs.Settling.{refused, kept, done, put}
-use Rattle.endpoint.proofs.Planning.{planned_no, planned_yes, slot_is, run_is, held_is, fit_of, passed_low, given_low, send_at, place_within, whole, low_one, low_two}
+use Rattle.endpoint.proofs.Planning.{send_at, whole}
 use Rattle.endpoint.specs.Steps.{checks, effect, stored, send}
 use Rattle.endpoint.specs.Application.{send_checks, after_send, area_after_send}
 use Rattle.slots.specs.Slots.{mark_word, mark_in}
 use native.Mathlib.Omega.{arith}
-use lib.ListN.{length}
-use Prim.Native.Nat.{ℕ, ◌+◌, ◌<◌}
-use mathlib.Core.Path.{◌≡◌, refl, sym, ap, ◌∙◌}
-use borrow.Author.Rules.{rules}
+use mathlib.Core.Path.{sym, ◌∙◌}
 use Rattle.endpoint.proofs.EndPoint.send.Goals as goal
 
 pub send_plan-p-requires : goal.send_plan-p-requires

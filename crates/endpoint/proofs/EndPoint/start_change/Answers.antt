@@ -1,10 +1,9 @@
 -- `start_change` meets its contract. Assumes nothing.
-use Rattle.endpoint.proofs.Settling.{refused, kept, done, put}
-use mathlib.Core.List.{[], ◌∷◌}
+use Rattle.endpoint.proofs.Settling.{refused, done}
+use mathlib.Core.List.{[]}
 use Rattle.endpoint.specs.Steps.{checks, effect, start_change}
 use Rattle.endpoint.specs.Membership.{after_start}
-use mathlib.Core.Path.{◌≡◌, refl, sym, ap, ◌∙◌}
-use borrow.Author.Rules.{rules}
+use mathlib.Core.Path.{◌∙◌}
 use Rattle.endpoint.proofs.EndPoint.start_change.Goals as goal
 
 pub start_number-n-requires : goal.start_number-n-requires

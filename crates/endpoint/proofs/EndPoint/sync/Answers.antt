@@ -1,10 +1,9 @@
 -- `sync` meets its contract. Assumes nothing.
-use Rattle.endpoint.proofs.Settling.{refused, kept, done, put}
-use mathlib.Core.List.{[], ◌∷◌}
+use Rattle.endpoint.proofs.Settling.{refused, done}
+use mathlib.Core.List.{[]}
 use Rattle.endpoint.specs.Steps.{checks, effect, sync}
 use Rattle.endpoint.specs.Change.{syncs}
-use mathlib.Core.Path.{◌≡◌, refl, sym, ap, ◌∙◌}
-use borrow.Author.Rules.{rules}
+use mathlib.Core.Path.{◌∙◌}
 use Rattle.endpoint.proofs.EndPoint.sync.Goals as goal
 
 pub sync_number-n-requires : goal.sync_number-n-requires

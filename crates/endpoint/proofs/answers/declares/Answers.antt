@@ -1,5 +1,4 @@
 -- `declares` meets its contract. Assumes nothing.
-use borrow.Author.Rules.{rules}
 use Rattle.endpoint.proofs.answers.declares.Goals as goal
 
 pub returns : goal.returns

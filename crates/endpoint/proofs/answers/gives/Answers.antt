@@ -1,5 +1,4 @@
 -- `gives` meets its contract. Assumes nothing.
-use borrow.Author.Rules.{rules}
 use Rattle.endpoint.proofs.answers.gives.Goals as goal
 
 pub returns : goal.returns

@@ -1,5 +1,4 @@
 -- `installs` meets its contract. Assumes nothing.
-use borrow.Author.Rules.{rules}
 use Rattle.endpoint.proofs.answers.installs.Goals as goal
 
 pub returns : goal.returns

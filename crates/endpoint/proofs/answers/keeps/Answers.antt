@@ -1,6 +1,4 @@
 -- `keeps` meets its contract. Assumes nothing.
-use borrow.Author.Rules.{rules}
-use Rattle.endpoint.specs.State.{with_heard, with_slots}
 use Rattle.endpoint.proofs.answers.keeps.Goals as goal
 
 pub returns : goal.returns

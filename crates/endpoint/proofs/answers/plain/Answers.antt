@@ -1,5 +1,4 @@
 -- `plain` meets its contract. Assumes nothing.
-use borrow.Author.Rules.{rules}
 use Rattle.endpoint.proofs.answers.plain.Goals as goal
 
 pub returns : goal.returns

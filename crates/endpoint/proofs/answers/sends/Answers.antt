@@ -1,5 +1,4 @@
 -- `sends` meets its contract. Assumes nothing.
-use borrow.Author.Rules.{rules}
 use Rattle.endpoint.proofs.answers.sends.Goals as goal
 
 pub returns : goal.returns

@@ -1,11 +1,10 @@
 -- `send_plan` meets its contract. Assumes nothing.
 use Rattle.endpoint.specs.Numbers.{verdict}
-use Rattle.below.proofs.Tests.{picks, told, told_so, told_not, not_is, is_not}
-use Rattle.endpoint.proofs.Planning.{unfit_is, planned_no, planned_yes, slot_is, run_is, held_is, fit_of, passed_low, given_low, send_within, place_within, whole, low_one, low_two}
+use Rattle.below.proofs.Tests.{told}
+use Rattle.endpoint.proofs.Planning.{unfit_is, planned_no, planned_yes, slot_is, run_is}
 use Prim.Native.Nat.{ℕ, ◌+◌}
 use Rattle.endpoint.specs.Application.{send_checks, own_run}
-use mathlib.Core.Path.{◌≡◌, refl, sym, ap, ◌∙◌}
-use borrow.Author.Rules.{rules}
+use mathlib.Core.Path.{refl, ap, ◌∙◌}
 use Rattle.endpoint.proofs.application.send_plan.Goals as goal
 
 pub returns-then-unfit : goal.returns-then-unfit

@@ -3,7 +3,6 @@ use Rattle.slots.specs.Slots.{slot_of}
 use Rattle.endpoint.specs.Pass.{last_given}
 use Rattle.endpoint.proofs.Batching.{plan_unfit, plan_absent, plan_here}
 use Rattle.endpoint.proofs.Planning.{unfit_is, run_is, slot_is}
-use borrow.Author.Rules.{rules}
 use Rattle.endpoint.specs.Application.{unfit}
 use Rattle.endpoint.proofs.Planning.{low_one}
 use mathlib.Core.Path.{ap}

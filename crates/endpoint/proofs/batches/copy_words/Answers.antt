@@ -1,12 +1,8 @@
 -- `copy_words` meets its contract: the words passed are at the front. Assumes nothing.
-use Prim.Native.Nat.{◌≤◌, ◌-◌}
 use native.Mathlib.Omega.{arith}
-use mathlib.Core.List.{◌++◌}
-use mathlib.Core.Path.{◌≡◌, refl, ◌∙◌}
-use lib.ListN.{length, drop, length-set}
-use Rattle.endpoint.specs.Pass.{words_after}
+use mathlib.Core.Path.{refl, ◌∙◌}
+use lib.ListN.{length-set}
 use Rattle.endpoint.proofs.Batching.{copy_none, copy_more, copy_end}
-use borrow.Author.Rules.{rules}
 use Rattle.endpoint.proofs.batches.copy_words.Goals as goal
 
 pub loop-j-init : goal.loop-j-init

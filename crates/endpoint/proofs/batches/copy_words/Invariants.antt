@@ -1,12 +1,9 @@
 -- `copy_words` meets its contract: the words passed are at the front. Assumes nothing.
 use Prim.Native.Nat.{◌≤◌, ◌-◌}
-use native.Mathlib.Omega.{arith}
 use mathlib.Core.List.{◌++◌}
-use mathlib.Core.Path.{◌≡◌, refl, ◌∙◌}
-use lib.ListN.{length, drop, length-set}
+use mathlib.Core.Path.{◌≡◌}
+use lib.ListN.{length, drop}
 use Rattle.endpoint.specs.Pass.{words_after}
-use Rattle.endpoint.proofs.Batching.{copy_none, copy_more, copy_end}
-use borrow.Author.Rules.{rules}
 use Rattle.endpoint.proofs.batches.copy_words.Given as goal
 
 abbrev pub invariant-loop-j : goal.invariant-loop-j

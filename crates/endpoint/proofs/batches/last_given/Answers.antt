@@ -3,7 +3,6 @@ use mathlib.Core.Path.{◌∙◌}
 use borrow.Author.Tests.{eq-eqb, ne_eqb}
 use Rattle.below.proofs.Tests.{told_not, told_so}
 use Rattle.endpoint.proofs.Batching.{last_idle, last_free, last_capped}
-use borrow.Author.Rules.{rules}
 use mathlib.Core.Path.{ap}
 use mathlib.Core.Bool.{not}
 use Rattle.endpoint.proofs.batches.last_given.Goals as goal

@@ -1,7 +1,7 @@
 -- `forward_plan` meets its contract. Assumes nothing.
 use Rattle.endpoint.specs.Numbers.{verdict}
-use Rattle.endpoint.proofs.Planning.{unfit_is, planned_no, planned_yes, slot_is, run_is, held_is, fit_of, passed_low, given_low, send_within, place_within, whole, low_one, low_two}
-use Rattle.endpoint.proofs.Agreed.{count_is, unnamed_is, T_is, owes_is, lowest_is, fewer_is, more_is, install_no, install_yes}
+use Rattle.endpoint.proofs.Planning.{unfit_is, planned_no, planned_yes, slot_is, fit_of, low_two}
+use Rattle.endpoint.proofs.Agreed.{unnamed_is, lowest_is}
 use Rattle.endpoint.proofs.Planning.{me_low}
 use Rattle.marks.proofs.Slot.{array_length}
 use Rattle.slots.proofs.Elements.{any}
@@ -11,7 +11,7 @@ use Prim.Native.Nat.{ℕ, ◌+◌, ◌<◌}
 use native.Mathlib.Omega.{arith}
 use Rattle.endpoint.specs.Forward.{forward_out_checks, due_index}
 use Rattle.endpoint.specs.Application.{unfit}
-use mathlib.Core.Path.{◌≡◌, refl, sym, ap, ◌∙◌}
+use mathlib.Core.Path.{◌≡◌, refl, ap, ◌∙◌}
 use borrow.Author.Rules.{rules}
 use Rattle.endpoint.proofs.forward.forward_plan.Goals as goal
 

@@ -1,10 +1,8 @@
 -- `first_views` meets its contract: the places passed are filled. Assumes nothing.
-use Rattle.below.specs.Below.{fill_below}
 use Rattle.below.proofs.Lists.{fills, filled_none, filled_more, filled_end}
-use lib.ListN.{length, replicate, length-replicate, length-set}
-use Prim.Native.Nat.{◌≤◌, ◌-◌}
+use lib.ListN.{length-replicate, length-set}
 use Rattle.views.specs.Views.{initial, no_view}
-use mathlib.Core.Path.{◌≡◌, refl, sym, ap, ◌∙◌}
+use mathlib.Core.Path.{◌∙◌}
 use borrow.Author.Rules.{rules}
 use Rattle.endpoint.proofs.fresh.first_views.Goals as goal
 

@@ -1,11 +1,9 @@
 -- `first_views` meets its contract: the places passed are filled. Assumes nothing.
 use Rattle.below.specs.Below.{fill_below}
-use Rattle.below.proofs.Lists.{fills, filled_none, filled_more, filled_end}
-use lib.ListN.{length, replicate, length-replicate, length-set}
+use lib.ListN.{length, replicate}
 use Prim.Native.Nat.{◌≤◌, ◌-◌}
 use Rattle.views.specs.Views.{initial, no_view}
-use mathlib.Core.Path.{◌≡◌, refl, sym, ap, ◌∙◌}
-use borrow.Author.Rules.{rules}
+use mathlib.Core.Path.{◌≡◌}
 use Rattle.endpoint.proofs.fresh.first_views.Given as goal
 
 abbrev pub invariant-loop-q : goal.invariant-loop-q

@@ -1,8 +1,7 @@
 -- `made` meets its contract. Assumes nothing.
 use Rattle.endpoint.specs.Fresh.{fresh}
 use Rattle.endpoint.proofs.Start.{fresh_slots_lem}
-use mathlib.Core.Path.{◌≡◌, refl, sym, ap, ◌∙◌}
-use borrow.Author.Rules.{rules}
+use mathlib.Core.Path.{refl}
 use Rattle.endpoint.proofs.fresh.made.Goals as goal
 
 pub returns : goal.returns

@@ -2,7 +2,6 @@
 use Rattle.below.proofs.Tests.{and_no}
 use Rattle.endpoint.specs.Give.{beyond_cut}
 use borrow.Author.Tests.{ne_eqb}
-use borrow.Author.Rules.{rules}
 use Rattle.endpoint.proofs.give.beyond_cut.Goals as goal
 
 pub returns-then-e-ne1 : goal.returns-then-e-ne1

@@ -1,13 +1,11 @@
 -- `give_plan` meets its contract. Assumes nothing.
 use Rattle.endpoint.specs.Numbers.{verdict}
-use Rattle.endpoint.proofs.Planning.{unfit_is, planned_no, planned_yes, slot_is, run_is, held_is, fit_of, passed_low, given_low, send_within, place_within, whole, low_one, low_two}
-use Prim.Native.Nat.{ℕ, ◌+◌}
+use Rattle.endpoint.proofs.Planning.{unfit_is, planned_no, planned_yes, slot_is, held_is, fit_of, given_low, low_one}
 use native.Mathlib.Omega.{arith}
 use Rattle.slots.proofs.Finding.{run_low}
 use Rattle.endpoint.specs.Give.{give_checks, next_given, nothing_next}
 use Rattle.endpoint.specs.Application.{unfit}
-use mathlib.Core.Path.{◌≡◌, refl, sym, ap, ◌∙◌}
-use borrow.Author.Rules.{rules}
+use mathlib.Core.Path.{refl, ◌∙◌}
 use Rattle.endpoint.proofs.give.give_plan.Goals as goal
 
 pub returns-then-unfit-q : goal.returns-then-unfit-q

@@ -1,10 +1,9 @@
 -- `limit` meets its contract, by the branch that was taken. Assumes nothing.
-use Rattle.below.proofs.Tests.{told, told_so, told_not, pick_yes, pick_no, and_yes, and_no}
-use Rattle.endpoint.proofs.Agreed.{count_is, unnamed_is, T_is, owes_is, lowest_is, fewer_is, more_is, install_no, install_yes}
+use Rattle.below.proofs.Tests.{told, pick_yes, pick_no}
+use Rattle.endpoint.proofs.Agreed.{count_is}
 use Rattle.endpoint.specs.Give.{limit}
 use Rattle.views.specs.Cuts.{count_of}
-use mathlib.Core.Path.{◌≡◌, refl, sym, ap, ◌∙◌}
-use borrow.Author.Rules.{rules}
+use mathlib.Core.Path.{ap, ◌∙◌}
 use Rattle.endpoint.proofs.give.limit.Goals as goal
 
 pub returns-then-ready : goal.returns-then-ready

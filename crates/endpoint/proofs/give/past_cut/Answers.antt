@@ -3,7 +3,6 @@ use Rattle.below.proofs.Tests.{told_so, told_not, and_yes, and_no}
 use Rattle.endpoint.specs.Give.{beyond_cut}
 use borrow.Author.Tests.{eq-eqb}
 use mathlib.Core.Path.{refl}
-use borrow.Author.Rules.{rules}
 use mathlib.Core.Path.{ap}
 use mathlib.Core.Bool.{not}
 use Rattle.endpoint.proofs.give.past_cut.Goals as goal

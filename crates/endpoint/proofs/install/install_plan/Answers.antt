@@ -1,10 +1,9 @@
 -- `install_plan` meets its contract. Assumes nothing.
 use Rattle.endpoint.specs.Numbers.{verdict}
-use Rattle.below.proofs.Tests.{told, told_so, told_not, pick_yes, pick_no, and_yes, and_no}
-use Rattle.endpoint.proofs.Agreed.{count_is, unnamed_is, T_is, owes_is, lowest_is, fewer_is, more_is, install_no, install_yes}
+use Rattle.below.proofs.Tests.{told_so, told_not}
+use Rattle.endpoint.proofs.Agreed.{unnamed_is, T_is, owes_is, fewer_is, more_is, install_no, install_yes}
 use Rattle.endpoint.proofs.Planning.{me_low}
-use mathlib.Core.Path.{◌≡◌, refl, sym, ap, ◌∙◌}
-use borrow.Author.Rules.{rules}
+use mathlib.Core.Path.{refl, ap, ◌∙◌}
 use mathlib.Core.Bool.{not}
 use Rattle.endpoint.proofs.install.install_plan.Goals as goal
 

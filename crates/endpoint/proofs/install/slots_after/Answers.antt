@@ -1,7 +1,6 @@
 -- `slots_after` meets its contract. Assumes nothing.
 use Rattle.endpoint.specs.Install.{slots_after}
-use mathlib.Core.Path.{◌≡◌, refl, sym, ap, ◌∙◌}
-use borrow.Author.Rules.{rules}
+use mathlib.Core.Path.{refl, ◌∙◌}
 use Rattle.endpoint.proofs.install.slots_after.Goals as goal
 
 pub returns : goal.returns

@@ -1,8 +1,7 @@
 -- `start_number` meets its contract. Assumes nothing.
 use Rattle.endpoint.specs.Numbers.{verdict}
 use Rattle.endpoint.specs.Membership.{start_checks}
-use mathlib.Core.Path.{◌≡◌, refl, sym, ap, ◌∙◌}
-use borrow.Author.Rules.{rules}
+use mathlib.Core.Path.{refl, ◌∙◌}
 use Rattle.endpoint.proofs.membership.start_number.Goals as goal
 
 pub returns : goal.returns

@@ -1,7 +1,6 @@
 -- `declared_set` meets its contract, by the branch that was taken. Assumes nothing.
-use Rattle.below.proofs.Tests.{picks, told, told_so, told_not, not_is, is_not}
+use Rattle.below.proofs.Tests.{picks}
 use Rattle.endpoint.specs.Change.{declared_set}
-use mathlib.Core.Path.{◌≡◌, refl, sym, ap, ◌∙◌}
 use borrow.Author.Rules.{rules}
 use Rattle.endpoint.proofs.own.declared_set.Goals as goal
 

@@ -1,7 +1,5 @@
 -- `own_cut` meets its contract. Assumes nothing.
 use Rattle.endpoint.proofs.Planning.{cut_is}
-use mathlib.Core.Path.{◌≡◌, refl, sym, ap, ◌∙◌}
-use borrow.Author.Rules.{rules}
 use Rattle.endpoint.proofs.own.own_cut.Goals as goal
 
 pub returns : goal.returns

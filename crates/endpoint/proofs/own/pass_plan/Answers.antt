@@ -1,13 +1,11 @@
 -- `pass_plan` meets its contract. Assumes nothing.
 use Rattle.endpoint.specs.Numbers.{verdict}
-use Rattle.below.proofs.Tests.{picks, told, told_so, told_not, not_is, is_not}
-use Rattle.endpoint.proofs.Planning.{unfit_is, planned_no, planned_yes, slot_is, run_is, held_is, fit_of, passed_low, given_low, send_within, place_within, whole, low_one, low_two}
-use Prim.Native.Nat.{ℕ, ◌+◌}
+use Rattle.below.proofs.Tests.{told}
+use Rattle.endpoint.proofs.Planning.{unfit_is, planned_no, planned_yes, slot_is, run_is, fit_of, passed_low}
 use native.Mathlib.Omega.{arith}
 use Rattle.endpoint.specs.Application.{own_run}
 use Rattle.endpoint.specs.Change.{pass_checks}
-use mathlib.Core.Path.{◌≡◌, refl, sym, ap, ◌∙◌}
-use borrow.Author.Rules.{rules}
+use mathlib.Core.Path.{refl, ◌∙◌}
 use Rattle.endpoint.proofs.own.pass_plan.Goals as goal
 
 pub returns-then-unfit : goal.returns-then-unfit

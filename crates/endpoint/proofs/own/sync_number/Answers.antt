@@ -1,8 +1,7 @@
 -- `sync_number` meets its contract. Assumes nothing.
 use Rattle.endpoint.specs.Numbers.{verdict}
 use Rattle.endpoint.specs.Change.{sync_out_checks}
-use mathlib.Core.Path.{◌≡◌, refl, sym, ap, ◌∙◌}
-use borrow.Author.Rules.{rules}
+use mathlib.Core.Path.{refl, ◌∙◌}
 use Rattle.endpoint.proofs.own.sync_number.Goals as goal
 
 pub returns : goal.returns

@@ -1,6 +1,5 @@
 -- `receive::forward_plan` meets its contract. Assumes nothing.
 use Rattle.endpoint.proofs.Receiving.{forward_is}
-use borrow.Author.Rules.{rules}
 use Rattle.endpoint.proofs.receive.forward_plan.Goals as goal
 
 pub returns : goal.returns

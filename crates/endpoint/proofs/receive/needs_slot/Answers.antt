@@ -1,6 +1,5 @@
 -- `receive::needs_slot` meets its contract. Assumes nothing.
 use Rattle.endpoint.proofs.Receiving.{needs_is}
-use borrow.Author.Rules.{rules}
 use Rattle.endpoint.proofs.receive.needs_slot.Goals as goal
 
 pub returns : goal.returns

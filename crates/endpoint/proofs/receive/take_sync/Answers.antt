@@ -2,7 +2,6 @@
 use mathlib.Core.Path.{sym, ◌∙◌}
 use Rattle.endpoint.proofs.Settling.{refuse}
 use Rattle.endpoint.proofs.Receiving.{sync_is, sync_stored}
-use borrow.Author.Rules.{rules}
 use Rattle.endpoint.proofs.receive.take_sync.Goals as goal
 
 pub returns-then-number-ne0 : goal.returns-then-number-ne0

@@ -1,6 +1,5 @@
 -- `receive::take_view` meets its contract. Assumes nothing.
 use Rattle.endpoint.proofs.Receiving.{view_refused, view_taken, view_plain}
-use borrow.Author.Rules.{rules}
 use Rattle.endpoint.proofs.receive.take_view.Goals as goal
 use Rattle.endpoint.proofs.receive.take_view.Goals.{then-p, else-p}
 

@@ -1,6 +1,6 @@
 -- `receive::take_word` meets its contract. Assumes nothing.
 use lib.Dec.{eqb}
-use lib.ListN.{length, length-set, set}
+use lib.ListN.{length-set}
 use borrow.Author.Tests.{eqb-true}
 use mathlib.Core.Bool.{not}
 use mathlib.Core.Path.{refl, ap}

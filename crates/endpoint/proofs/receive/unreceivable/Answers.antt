@@ -1,7 +1,6 @@
 -- `receive::unreceivable` meets its contract. Assumes nothing.
 use Rattle.endpoint.specs.Receive.{unreceivable}
 use Rattle.endpoint.proofs.Planning.{unfit_is}
-use borrow.Author.Rules.{rules}
 use Rattle.endpoint.proofs.receive.unreceivable.Goals as goal
 
 pub returns : goal.returns

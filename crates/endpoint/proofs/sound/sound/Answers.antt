@@ -1,7 +1,5 @@
 -- `sound` meets its contract. Assumes nothing.
 use Rattle.endpoint.proofs.Passing.{pass_sound}
-use Rattle.endpoint.specs.State.{is_pending}
-use borrow.Author.Rules.{rules}
 use Rattle.endpoint.proofs.sound.sound.Goals as goal
 
 pub returns : goal.returns

@@ -1,7 +1,5 @@
 -- `views_sound` meets its contract. Assumes nothing.
 use Rattle.endpoint.specs.Pass.{views_sound}
-use mathlib.Core.Path.{◌≡◌, refl, sym, ap, ◌∙◌}
-use borrow.Author.Rules.{rules}
 use Rattle.endpoint.proofs.sound.views_sound.Goals as goal
 
 pub returns : goal.returns

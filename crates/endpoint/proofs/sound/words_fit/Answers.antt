@@ -1,7 +1,5 @@
 -- `words_fit` meets its contract. Assumes nothing.
 use Rattle.endpoint.specs.Pass.{words_fit}
-use mathlib.Core.Path.{◌≡◌, refl, sym, ap, ◌∙◌}
-use borrow.Author.Rules.{rules}
 use Rattle.endpoint.proofs.sound.words_fit.Goals as goal
 
 pub returns : goal.returns

@@ -1,5 +1,4 @@
 -- `Message::blank` meets its contract: its view and cut are the blank ones. Assumes nothing.
-use borrow.Author.Rules.{rules}
 use Rattle.messages.proofs.Message.blank.Goals as goal
 
 pub returns : goal.returns

@@ -1,5 +1,4 @@
 -- `Message::of_forward` meets its contract: a blank message with these parts. Assumes nothing.
-use borrow.Author.Rules.{rules}
 use Rattle.messages.proofs.Message.of_forward.Goals as goal
 
 pub returns : goal.returns

@@ -1,5 +1,4 @@
 -- `Message::of_word` meets its contract: a blank message with these parts. Assumes nothing.
-use borrow.Author.Rules.{rules}
 use Rattle.messages.proofs.Message.of_word.Goals as goal
 
 pub returns : goal.returns

@@ -1,10 +1,9 @@
 -- `codec::put_body` meets its contract, kind by kind. Assumes nothing.
 use native.Mathlib.Omega.{arith}
 use lib.ListN.{length}
-use mathlib.Core.Logic.{⊎_elim, inl, inr}
+use mathlib.Core.Logic.{⊎_elim}
 use Rattle.messages.proofs.Arms.{room, stored_view, stored_word, stored_sync, stored_forward, stored_start_change, stored_none}
 use Rattle.messages.specs.Layouts.{length_of}
-use borrow.Author.Rules.{rules}
 use Rattle.messages.proofs.codec.put_body.Goals as goal
 
 pub put_view-requires : goal.put_view-requires

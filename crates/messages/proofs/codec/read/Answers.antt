@@ -2,7 +2,6 @@
 use mathlib.Core.Path.{refl}
 use Rattle.below.proofs.Tests.{told_not, told_so}
 use Rattle.messages.proofs.Tested.{read_empty, read_length, read_malformed, read_whole}
-use borrow.Author.Rules.{rules}
 use mathlib.Core.Path.{ap}
 use mathlib.Core.Bool.{not}
 use Rattle.messages.proofs.codec.read.Goals as goal

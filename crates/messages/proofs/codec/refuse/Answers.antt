@@ -1,5 +1,4 @@
 -- `codec::refuse` meets its contract: its message is blank. Assumes nothing.
-use borrow.Author.Rules.{rules}
 use Rattle.messages.proofs.codec.refuse.Goals as goal
 
 pub returns : goal.returns

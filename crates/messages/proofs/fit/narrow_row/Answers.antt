@@ -1,11 +1,6 @@
 -- `fit::narrow_row` meets its contract: `ok` says all numbers passed. Assumes nothing.
 use borrow.Author.Rules.{rules}
 use Rattle.below.proofs.All.{alls}
-use Rattle.below.specs.Below.{all_below}
-use mathlib.Core.Path.{◌≡◌}
-use Prim.Native.Nat.{◌≤◌, ◌-◌, ◌+◌}
-use lib.ListN.{get_or}
-use lib.Dec.{ltb}
 use Rattle.messages.proofs.fit.narrow_row.Goals as goal
 
 pub loop-n-init : goal.loop-n-init

@@ -1,6 +1,4 @@
 -- `fit::narrow_row` meets its contract: `ok` says all numbers passed. Assumes nothing.
-use borrow.Author.Rules.{rules}
-use Rattle.below.proofs.All.{alls}
 use Rattle.below.specs.Below.{all_below}
 use mathlib.Core.Path.{◌≡◌}
 use Prim.Native.Nat.{◌≤◌, ◌-◌, ◌+◌}

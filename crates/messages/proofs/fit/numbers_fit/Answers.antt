@@ -1,6 +1,5 @@
 -- `fit::numbers_fit` meets its contract: each part is what its test says. Assumes nothing.
 use Rattle.messages.specs.Fits.{numbers_fit}
-use borrow.Author.Rules.{rules}
 use Rattle.messages.proofs.fit.numbers_fit.Goals as goal
 
 pub returns : goal.returns

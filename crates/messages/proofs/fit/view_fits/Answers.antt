@@ -6,7 +6,6 @@ use mathlib.Core.Path.{refl}
 use Rattle.below.proofs.Tests.{told, told_not, told_so, pick_yes, pick_no, and_yes, and_no}
 use Rattle.messages.specs.Fields.{narrow_starts}
 use Rattle.messages.specs.Fits.{narrow_view, view_fields_fit}
-use borrow.Author.Rules.{rules}
 use mathlib.Core.Path.{ap}
 use mathlib.Core.Bool.{not}
 use Rattle.messages.proofs.fit.view_fits.Goals as goal

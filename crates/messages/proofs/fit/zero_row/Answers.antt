@@ -1,11 +1,6 @@
 -- `fit::zero_row_lem` meets its contract: `ok` says all numbers passed. Assumes nothing.
 use borrow.Author.Rules.{rules}
 use Rattle.below.proofs.All.{alls}
-use Rattle.below.specs.Below.{all_below}
-use mathlib.Core.Path.{◌≡◌}
-use Prim.Native.Nat.{◌≤◌, ◌-◌, ◌+◌}
-use lib.ListN.{get_or}
-use lib.Dec.{eqb}
 use Rattle.messages.specs.Fits.{zero_row}
 use Rattle.messages.proofs.fit.zero_row.Goals as goal
 

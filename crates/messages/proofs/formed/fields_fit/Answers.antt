@@ -1,6 +1,5 @@
 -- `formed::fields_fit` meets its contract: each part is what its test says. Assumes nothing.
 use Rattle.messages.specs.Layouts.{fields_fit}
-use borrow.Author.Rules.{rules}
 use Rattle.messages.proofs.formed.fields_fit.Goals as goal
 
 pub returns : goal.returns

@@ -1,11 +1,9 @@
 -- `get::counts_at` meets its contract: the places passed are filled. Assumes nothing.
-use borrow.Author.Rules.{rules}
 use Prim.Native.Nat.{◌≤◌, ◌-◌, ◌+◌, ◌*◌}
-use mathlib.Core.Path.{◌≡◌, refl}
+use mathlib.Core.Path.{◌≡◌}
 use lib.ListN.{length, replicate}
 use Rattle.below.specs.Below.{fill_below}
-use Rattle.below.proofs.Lists.{fills, filled_none}
-use Rattle.messages.specs.Bytes.{number_at, row_at}
+use Rattle.messages.specs.Bytes.{number_at}
 use Rattle.messages.proofs.get.counts_at.Given as goal
 
 abbrev pub invariant-loop-n : goal.invariant-loop-n

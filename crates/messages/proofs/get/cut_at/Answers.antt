@@ -1,6 +1,5 @@
 -- `get::cut_at` meets its contract: its counts are the row. Assumes nothing.
 use Rattle.messages.specs.Bytes.{cut_at}
-use borrow.Author.Rules.{rules}
 use Rattle.messages.proofs.get.cut_at.Goals as goal
 
 pub returns : goal.returns

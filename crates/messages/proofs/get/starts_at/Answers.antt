@@ -1,11 +1,8 @@
 -- `get::starts_at` meets its contract: the places passed are filled. Assumes nothing.
 use borrow.Author.Rules.{rules}
-use Prim.Native.Nat.{◌≤◌, ◌-◌, ◌+◌, ◌*◌}
-use mathlib.Core.Path.{◌≡◌, refl}
-use lib.ListN.{length, replicate}
-use Rattle.below.specs.Below.{fill_below}
+use mathlib.Core.Path.{refl}
 use Rattle.below.proofs.Lists.{fills, filled_none}
-use Rattle.messages.specs.Bytes.{number_at, row_at}
+use Rattle.messages.specs.Bytes.{row_at}
 use Rattle.messages.proofs.get.starts_at.Goals as goal
 
 pub loop-n-init : goal.loop-n-init

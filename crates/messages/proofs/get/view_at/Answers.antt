@@ -1,6 +1,5 @@
 -- `get::view_at` meets its contract: its parts are those at the three places. Assumes nothing.
 use Rattle.messages.specs.Bytes.{view_at}
-use borrow.Author.Rules.{rules}
 use Rattle.messages.proofs.get.view_at.Goals as goal
 
 pub returns : goal.returns

@@ -1,7 +1,6 @@
 -- `get::word_at` meets its contract: two numbers of four bytes. Assumes nothing.
 use native.Mathlib.Omega.{arith}
 use Rattle.messages.proofs.Numbers.{number_split}
-use borrow.Author.Rules.{rules}
 use Rattle.messages.proofs.get.word_at.Goals as goal
 
 pub returns : goal.returns

@@ -1,6 +1,5 @@
 -- `give::give` meets its contract: the three stores are the whole row. Assumes nothing.
 use Rattle.messages.proofs.Rows.{whole_row}
-use borrow.Author.Rules.{rules}
 use Rattle.messages.proofs.give.give.Goals as goal
 
 pub returns : goal.returns

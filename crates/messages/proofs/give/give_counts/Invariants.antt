@@ -1,12 +1,9 @@
 -- `give::give_counts` meets its contract: the numbers passed are stored. Assumes nothing.
-use borrow.Author.Rules.{rules}
 use Prim.Native.Nat.{◌≤◌, ◌-◌}
-use mathlib.Core.Path.{◌≡◌, refl}
-use lib.ListN.{length, get_or, length-set}
+use mathlib.Core.Path.{◌≡◌}
+use lib.ListN.{length, get_or}
 use Rattle.below.specs.Below.{list_below}
 use lib.Seq.{sets}
-use native.Mathlib.Omega.{arith}
-use Rattle.messages.proofs.Rows.{copy_none, copy_more, copy_end}
 use Rattle.messages.proofs.give.give_counts.Given as goal
 
 abbrev pub invariant-loop-n : goal.invariant-loop-n

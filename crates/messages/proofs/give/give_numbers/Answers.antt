@@ -1,7 +1,6 @@
 -- `give::give_numbers` meets its contract: eight stores, one a place. Assumes nothing.
 use native.Mathlib.Omega.{arith}
 use lib.ListN.{length-set}
-use borrow.Author.Rules.{rules}
 use Rattle.messages.proofs.give.give_numbers.Goals as goal
 
 pub bounds-fields-4 : goal.bounds-fields-4

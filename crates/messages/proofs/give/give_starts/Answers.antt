@@ -1,10 +1,7 @@
 -- `give::give_starts` meets its contract: the numbers passed are stored. Assumes nothing.
 use borrow.Author.Rules.{rules}
-use Prim.Native.Nat.{◌≤◌, ◌-◌}
-use mathlib.Core.Path.{◌≡◌, refl}
-use lib.ListN.{length, get_or, length-set}
-use Rattle.below.specs.Below.{list_below}
-use lib.Seq.{sets}
+use mathlib.Core.Path.{refl}
+use lib.ListN.{length-set}
 use native.Mathlib.Omega.{arith}
 use Rattle.messages.proofs.Rows.{copy_none, copy_more, copy_end}
 use Rattle.messages.proofs.give.give_starts.Goals as goal

@@ -1,12 +1,8 @@
 -- `put::put_cut` meets its contract: the counts passed are stored. Assumes nothing.
 use borrow.Author.Rules.{rules}
-use Prim.Native.Nat.{◌≤◌, ◌-◌}
-use mathlib.Core.Path.{◌≡◌, refl, ◌∙◌}
-use lib.ListN.{length, get_or}
-use lib.Seq.{sets}
-use Rattle.below.specs.Below.{join_below}
+use mathlib.Core.Path.{refl, ◌∙◌}
 use Rattle.messages.proofs.Stores.{row_none, row_more, row_end}
-use Rattle.messages.specs.Bytes.{le, cut_bytes}
+use Rattle.messages.specs.Bytes.{cut_bytes}
 use Rattle.messages.proofs.put.put_cut.Goals as goal
 
 pub loop-n-init : goal.loop-n-init

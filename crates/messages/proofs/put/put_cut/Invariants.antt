@@ -1,12 +1,10 @@
 -- `put::put_cut` meets its contract: the counts passed are stored. Assumes nothing.
-use borrow.Author.Rules.{rules}
 use Prim.Native.Nat.{◌≤◌, ◌-◌}
-use mathlib.Core.Path.{◌≡◌, refl, ◌∙◌}
+use mathlib.Core.Path.{◌≡◌}
 use lib.ListN.{length, get_or}
 use lib.Seq.{sets}
 use Rattle.below.specs.Below.{join_below}
-use Rattle.messages.proofs.Stores.{row_none, row_more, row_end}
-use Rattle.messages.specs.Bytes.{le, cut_bytes}
+use Rattle.messages.specs.Bytes.{le}
 use Rattle.messages.proofs.put.put_cut.Given as goal
 
 abbrev pub invariant-loop-n : goal.invariant-loop-n

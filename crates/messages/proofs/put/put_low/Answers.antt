@@ -3,7 +3,6 @@ use native.Mathlib.Omega.{arith}
 use lib.ListN.{length-set}
 use Rattle.messages.specs.Bytes.{le}
 use native.Mathlib.Numerals.{add-one}
-use borrow.Author.Rules.{rules}
 use Rattle.messages.proofs.put.put_low.Goals as goal
 
 pub bounds-area-second : goal.bounds-area-second

@@ -1,12 +1,7 @@
 -- `put::put_starts` meets its contract: the numbers passed are stored. Assumes nothing.
 use borrow.Author.Rules.{rules}
-use Prim.Native.Nat.{◌≤◌, ◌-◌}
-use mathlib.Core.Path.{◌≡◌, refl, ◌∙◌}
-use lib.ListN.{length, get_or}
-use lib.Seq.{sets}
-use Rattle.below.specs.Below.{join_below}
+use mathlib.Core.Path.{refl, ◌∙◌}
 use Rattle.messages.proofs.Stores.{row_none, row_more, row_end}
-use Rattle.messages.specs.Bytes.{le}
 use Rattle.messages.proofs.put.put_starts.Goals as goal
 
 pub loop-n-init : goal.loop-n-init

@@ -1,11 +1,9 @@
 -- `put::put_starts` meets its contract: the numbers passed are stored. Assumes nothing.
-use borrow.Author.Rules.{rules}
 use Prim.Native.Nat.{◌≤◌, ◌-◌}
-use mathlib.Core.Path.{◌≡◌, refl, ◌∙◌}
+use mathlib.Core.Path.{◌≡◌}
 use lib.ListN.{length, get_or}
 use lib.Seq.{sets}
 use Rattle.below.specs.Below.{join_below}
-use Rattle.messages.proofs.Stores.{row_none, row_more, row_end}
 use Rattle.messages.specs.Bytes.{le}
 use Rattle.messages.proofs.put.put_starts.Given as goal
 

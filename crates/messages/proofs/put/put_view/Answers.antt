@@ -1,6 +1,5 @@
 -- `put::put_view` meets its contract: three stores, one behind the other. Assumes nothing.
 use Rattle.messages.proofs.Stores.{view_stored}
-use borrow.Author.Rules.{rules}
 use Rattle.messages.proofs.put.put_view.Goals as goal
 
 pub returns : goal.returns

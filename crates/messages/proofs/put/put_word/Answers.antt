@@ -1,6 +1,5 @@
 -- `put::put_word` meets its contract: two stores of four bytes. Assumes nothing.
 use Rattle.messages.proofs.Stores.{word_stored}
-use borrow.Author.Rules.{rules}
 use Rattle.messages.proofs.put.put_word.Goals as goal
 
 pub returns : goal.returns

@@ -1,7 +1,5 @@
 -- `reader::read_fields` meets its contract, by the test at which it stopped or the kind that it read. Assumes nothing.
-use borrow.Author.Rules.{rules}
 use mathlib.Core.Path.{refl, ap, ◌∙◌}
-use mathlib.Core.Logic.{inl, inr}
 use native.Mathlib.Omega.{arith}
 use Rattle.messages.proofs.Rows.{unread_row, unread_empty, unread_length, unread_kind}
 use Rattle.messages.specs.Layouts.{length_of}

@@ -1,5 +1,4 @@
 -- `reader::read_forward` meets its contract: the place and the view are tested. Assumes nothing.
-use borrow.Author.Rules.{rules}
 use native.Mathlib.Omega.{arith}
 use mathlib.Core.Path.{refl, ◌∙◌}
 use mathlib.Core.Bool.{and-false}

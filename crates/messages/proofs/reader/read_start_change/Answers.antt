@@ -1,5 +1,4 @@
 -- `reader::read_start_change` meets its contract: a start change has no test. Assumes nothing.
-use borrow.Author.Rules.{rules}
 use native.Mathlib.Omega.{arith}
 use mathlib.Core.Path.{refl}
 use Rattle.messages.proofs.Arms.{at_start_change, well_start_change}

@@ -1,5 +1,4 @@
 -- `reader::read_view` meets its contract: only the view is tested. Assumes nothing.
-use borrow.Author.Rules.{rules}
 use native.Mathlib.Omega.{arith}
 use mathlib.Core.Path.{refl, ◌∙◌}
 use lib.ListN.{length}

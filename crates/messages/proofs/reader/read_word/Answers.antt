@@ -1,5 +1,4 @@
 -- `reader::read_word` meets its contract: a word has no test. Assumes nothing.
-use borrow.Author.Rules.{rules}
 use native.Mathlib.Omega.{arith}
 use mathlib.Core.Path.{refl}
 use Rattle.messages.proofs.Arms.{at_word, well_word}

@@ -1,9 +1,8 @@
 -- `take::counts_of` meets its contract: the places passed are filled. Assumes nothing.
 use borrow.Author.Rules.{rules}
-use Prim.Native.Nat.{◌≤◌, ◌-◌, ◌+◌}
-use mathlib.Core.Path.{◌≡◌, refl}
-use lib.ListN.{length, replicate, get_or}
-use Rattle.below.specs.Below.{fill_below}
+use Prim.Native.Nat.{◌+◌}
+use mathlib.Core.Path.{refl}
+use lib.ListN.{get_or}
 use Rattle.below.proofs.Lists.{fills, filled_none}
 use lib.Dec.{ltb}
 use borrow.Author.Tests.{ltb-true}

@@ -1,5 +1,4 @@
 -- `take::cut_of` meets its contract: the counts are the row. Assumes nothing.
-use borrow.Author.Rules.{rules}
 use Rattle.messages.specs.Fields.{message_of}
 use Rattle.messages.proofs.take.cut_of.Goals as goal
 

@@ -1,15 +1,8 @@
 -- `take::starts_of` meets its contract: the places passed are filled. Assumes nothing.
-use borrow.Author.Rules.{rules}
 use Prim.Native.Nat.{◌≤◌, ◌-◌, ◌+◌}
-use mathlib.Core.Path.{◌≡◌, refl}
+use mathlib.Core.Path.{◌≡◌}
 use lib.ListN.{length, replicate, get_or}
 use Rattle.below.specs.Below.{fill_below}
-use Rattle.below.proofs.Lists.{fills, filled_none}
-use Prim.Native.Nat.{◌^◌}
-use lib.Dec.{ltb}
-use borrow.Author.Tests.{ltb-true}
-use Rattle.below.proofs.All.{all_each}
-use Rattle.messages.specs.Fields.{narrow_starts}
 use Rattle.messages.proofs.take.starts_of.Given as goal
 
 abbrev pub invariant-loop-n : goal.invariant-loop-n

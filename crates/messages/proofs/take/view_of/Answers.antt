@@ -1,5 +1,4 @@
 -- `take::view_of` meets its contract: each cast loses nothing, since the fields are narrow. Assumes nothing.
-use borrow.Author.Rules.{rules}
 use mathlib.Core.Bool.{◌&&◌}
 use Prim.Native.Nat.{◌^◌}
 use lib.Dec.{ltb}

@@ -1,8 +1,7 @@
 -- `writer::write_fields` meets its contract, by the kind that the fields have. Assumes nothing.
 use native.Mathlib.Omega.{arith}
-use mathlib.Core.Logic.{⊎_elim, inl, inr}
+use mathlib.Core.Logic.{⊎_elim}
 use Rattle.messages.proofs.Rows.{unwritten_row, unwritten_kind}
-use borrow.Author.Rules.{rules}
 use Rattle.messages.proofs.writer.write_fields.Goals as goal
 
 pub returns-then-fields-ne24 : goal.returns-then-fields-ne24

@@ -7,7 +7,6 @@ use Rattle.messages.proofs.Rows.{unwritten_short}
 use Rattle.messages.proofs.Fits.{tested, unfit, fit, fit_low, fit_written, counts_narrow, view_narrow}
 use Rattle.messages.specs.Layouts.{length_of}
 use Rattle.messages.specs.Fields.{message_of}
-use borrow.Author.Rules.{rules}
 use mathlib.Core.Path.{ap}
 use mathlib.Core.Bool.{not}
 use Rattle.messages.proofs.writer.write_sync.Goals as goal

@@ -1,12 +1,5 @@
 -- `counts_least` meets its contract: a loop that tests all. Assumes nothing.
 use Rattle.below.proofs.All.{alls}
-use Rattle.below.specs.Below.{all_below}
-use mathlib.Core.Bool.{true, cond}
-use Prim.Native.Nat.{◌≤◌, ◌-◌}
-use mathlib.Core.Path.{◌≡◌}
-use lib.Dec.{leb}
-use lib.ListN.{get_or}
-use Rattle.views.specs.Sets.{has}
 use Rattle.parts.specs.Counts.{at_least}
 use borrow.Author.Rules.{rules}
 use Rattle.parts.proofs.counts.counts_least.Goals as goal

@@ -1,5 +1,4 @@
 -- `counts_least` meets its contract: a loop that tests all. Assumes nothing.
-use Rattle.below.proofs.All.{alls}
 use Rattle.below.specs.Below.{all_below}
 use mathlib.Core.Bool.{true, cond}
 use Prim.Native.Nat.{◌≤◌, ◌-◌}
@@ -7,8 +6,6 @@ use mathlib.Core.Path.{◌≡◌}
 use lib.Dec.{leb}
 use lib.ListN.{get_or}
 use Rattle.views.specs.Sets.{has}
-use Rattle.parts.specs.Counts.{at_least}
-use borrow.Author.Rules.{rules}
 use Rattle.parts.proofs.counts.counts_least.Given as goal
 
 abbrev pub invariant-loop-n : goal.invariant-loop-n

@@ -1,14 +1,10 @@
 -- `cut_of` meets its contract: the places passed are filled. Assumes nothing.
-use Rattle.below.specs.Below.{fill_below}
 use Rattle.below.proofs.Lists.{fills, filled_none, filled_end}
-use lib.ListN.{replicate}
 use mathlib.Core.Bool.{cond}
 use Rattle.views.specs.Sets.{has}
 use Rattle.marks.specs.Marks.{run_in}
 use Rattle.parts.specs.Counts.{cut_of}
-use Prim.Native.Nat.{◌≤◌, ◌-◌}
-use mathlib.Core.Path.{◌≡◌, refl}
-use lib.ListN.{length}
+use mathlib.Core.Path.{refl}
 use borrow.Author.Rules.{rules}
 use Rattle.parts.proofs.counts.cut_of.Goals as goal
 

@@ -1,8 +1,6 @@
 -- `given_fit` meets its contract: a loop that tests all. Assumes nothing.
 use Rattle.below.proofs.All.{alls, acc_more}
-use Rattle.below.specs.Below.{all_below}
-use Prim.Native.Nat.{◌≤◌, ◌-◌}
-use mathlib.Core.Path.{◌≡◌, ap}
+use mathlib.Core.Path.{ap}
 use lib.Dec.{leb}
 use lib.ListN.{get_or}
 use Rattle.marks.specs.Marks.{run_in}

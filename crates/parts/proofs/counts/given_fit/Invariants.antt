@@ -1,13 +1,10 @@
 -- `given_fit` meets its contract: a loop that tests all. Assumes nothing.
-use Rattle.below.proofs.All.{alls, acc_more}
 use Rattle.below.specs.Below.{all_below}
 use Prim.Native.Nat.{◌≤◌, ◌-◌}
-use mathlib.Core.Path.{◌≡◌, ap}
+use mathlib.Core.Path.{◌≡◌}
 use lib.Dec.{leb}
 use lib.ListN.{get_or}
 use Rattle.marks.specs.Marks.{run_in}
-use Rattle.parts.specs.Counts.{given_fit}
-use borrow.Author.Rules.{rules}
 use Rattle.parts.proofs.counts.given_fit.Given as goal
 
 abbrev pub invariant-loop-r : goal.invariant-loop-r

@@ -1,11 +1,6 @@
 -- `row_fits` meets its contract: at once where all marks are 0, and else by a loop that tests all. Assumes nothing.
 use Rattle.below.proofs.All.{alls}
 use Rattle.below.proofs.Tests.{told}
-use Rattle.below.specs.Below.{all_below}
-use Prim.Native.Nat.{◌≤◌, ◌-◌}
-use mathlib.Core.Path.{◌≡◌}
-use lib.Dec.{leb}
-use lib.ListN.{get_or}
 use Rattle.parts.specs.Counts.{row_fits}
 use Rattle.parts.proofs.Elements.{zero_fits}
 use borrow.Author.Rules.{rules}

@@ -1,10 +1,5 @@
 -- `row_zero` meets its contract: a loop that tests all. Assumes nothing.
 use Rattle.below.proofs.All.{alls}
-use Rattle.below.specs.Below.{all_below}
-use Prim.Native.Nat.{◌≤◌, ◌-◌}
-use mathlib.Core.Path.{◌≡◌}
-use lib.Dec.{eqb}
-use lib.ListN.{get_or}
 use borrow.Author.Rules.{rules}
 use Rattle.parts.proofs.counts.row_zero.Goals as goal
 

@@ -1,8 +1,6 @@
 -- `rows_fit` meets its contract: a loop that tests all. Assumes nothing.
 use Rattle.below.proofs.All.{alls, acc_end, acc_more}
-use Rattle.below.specs.Below.{all_below}
 use Rattle.marks.proofs.Slot.{array_length}
-use Prim.Native.Nat.{◌≤◌, ◌-◌}
 use mathlib.Core.Path.{◌≡◌, ◌∙◌}
 use lib.ListN.{get_or, length}
 use Rattle.parts.specs.Counts.{row_fits}

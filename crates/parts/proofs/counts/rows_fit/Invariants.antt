@@ -1,13 +1,10 @@
 -- `rows_fit` meets its contract: a loop that tests all. Assumes nothing.
-use Rattle.below.proofs.All.{alls, acc_end, acc_more}
 use Rattle.below.specs.Below.{all_below}
-use Rattle.marks.proofs.Slot.{array_length}
 use Prim.Native.Nat.{◌≤◌, ◌-◌}
-use mathlib.Core.Path.{◌≡◌, ◌∙◌}
-use lib.ListN.{get_or, length}
+use mathlib.Core.Path.{◌≡◌}
+use lib.ListN.{get_or}
 use Rattle.parts.specs.Counts.{row_fits}
-use Rattle.parts.proofs.Elements.{past_row, rows_any}
-use borrow.Author.Rules.{rules}
+use Rattle.parts.proofs.Elements.{past_row}
 use Rattle.parts.proofs.counts.rows_fit.Given as goal
 
 abbrev pub invariant-loop-q : goal.invariant-loop-q

@@ -1,10 +1,8 @@
 -- `others_fit` meets its contract: a loop that tests all. Assumes nothing.
-use Prim.Native.Nat.{◌≤◌, ◌-◌}
 use mathlib.Core.Bool.{◌||◌, not}
 use mathlib.Core.Path.{◌≡◌, ◌∙◌, ap}
 use lib.Dec.{eqb}
 use lib.ListN.{get_or, length}
-use Rattle.below.specs.Below.{all_below}
 use Rattle.below.proofs.All.{acc_none, acc_end, acc_more}
 use Rattle.marks.proofs.Slot.{array_length}
 use Rattle.parts.specs.Others.{other_fits}

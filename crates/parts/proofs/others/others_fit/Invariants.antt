@@ -1,16 +1,12 @@
 -- `others_fit` meets its contract: a loop that tests all. Assumes nothing.
 use Prim.Native.Nat.{◌≤◌, ◌-◌}
 use mathlib.Core.Bool.{◌||◌}
-use mathlib.Core.Logic.{⊎_elim}
-use mathlib.Core.Path.{◌≡◌, ◌∙◌}
+use mathlib.Core.Path.{◌≡◌}
 use lib.Dec.{eqb}
-use lib.ListN.{get_or, length}
+use lib.ListN.{get_or}
 use Rattle.below.specs.Below.{all_below}
-use Rattle.below.proofs.All.{acc_none, acc_end, acc_more}
-use Rattle.marks.proofs.Slot.{array_length}
 use Rattle.parts.specs.Others.{other_fits}
-use Rattle.parts.proofs.Elements.{past_view, others_any, other_is, fits_current, fits_idle, fits_slot}
-use borrow.Author.Rules.{rules}
+use Rattle.parts.proofs.Elements.{past_view}
 use Rattle.parts.proofs.others.others_fit.Given as goal
 
 abbrev pub invariant-loop-q : goal.invariant-loop-q

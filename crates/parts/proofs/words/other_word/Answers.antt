@@ -1,5 +1,4 @@
 -- `other_word` meets its contract. Assumes nothing.
-use borrow.Author.Rules.{rules}
 use Rattle.parts.proofs.words.other_word.Goals as goal
 
 pub returns : goal.returns

@@ -1,7 +1,6 @@
 -- `word_at` meets its contract. Assumes nothing.
 use lib.ListN.{get_or-eq_default}
 use mathlib.Core.Path.{sym}
-use borrow.Author.Rules.{rules}
 use Rattle.parts.proofs.words.word_at.Goals as goal
 
 pub returns-else-at-area : goal.returns-else-at-area

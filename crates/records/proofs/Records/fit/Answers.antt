@@ -1,13 +1,11 @@
 -- `Records::fit` meets its contract: all senders passed fit, and of this one all records passed do. Assumes nothing.
-use Prim.Native.Nat.{◌+◌, ◌-◌, ◌≤◌}
-use mathlib.Core.Bool.{true}
+use Prim.Native.Nat.{◌+◌}
 use mathlib.Core.Path.{◌≡◌, sym, ap, ◌∙◌}
 use lib.ListN.{length}
-use Rattle.below.specs.Below.{all_below}
 use Rattle.below.proofs.All.{all_none}
 use Rattle.records.specs.Records.{record_count, record_ok}
 use Rattle.records.proofs.Past.{array_length, read_at}
-use Rattle.records.proofs.Passing.{least_at, passes, sender_fits, least_first, least_next, pass_many, pass_sender, pass_end, pass_order, pass_formed, pass_more}
+use Rattle.records.proofs.Passing.{least_first, least_next, pass_many, pass_sender, pass_end, pass_order, pass_formed, pass_more}
 use borrow.Author.Rules.{rules}
 use mathlib.Core.Bool.{not}
 use Rattle.records.proofs.Records.fit.Goals as goal

@@ -4,7 +4,7 @@ use Rattle.records.proofs.Past.{read_at, array_length, record_past, newest_past}
 use Prim.Native.Nat.{◌-◌}
 use native.Mathlib.Omega.{arith}
 use mathlib.Core.Path.{◌≡◌, sym, ap, ◌∙◌}
-use Rattle.records.specs.Records.{record_count, newest}
+use Rattle.records.specs.Records.{record_count}
 use Rattle.records.proofs.Find.{newest_none, newest_last}
 use borrow.Author.Rules.{rules}
 use Rattle.records.proofs.Records.newest.Goals as goal

@@ -1,5 +1,4 @@
 -- `Records::none` meets its contract. Assumes nothing.
-use borrow.Author.Rules.{rules}
 use Rattle.records.proofs.Records.none.Goals as goal
 
 pub returns : goal.returns

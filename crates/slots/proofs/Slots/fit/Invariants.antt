@@ -1,13 +1,9 @@
 -- `Slots::fit` meets its contract: the slots passed fit. Assumes nothing.
 use Prim.Native.Nat.{◌≤◌, ◌-◌}
 use mathlib.Core.Path.{◌≡◌}
-use lib.ListN.{length}
-use Rattle.marks.proofs.Slot.{array_length}
 use mathlib.Core.Bool.{true}
 use Rattle.below.specs.Below.{all_below}
-use Rattle.below.proofs.All.{all_none, loop_more}
-use Rattle.slots.proofs.Branches.{fits_at, fit_stop, fit_end}
-use borrow.Author.Rules.{rules}
+use Rattle.slots.proofs.Branches.{fits_at}
 use Rattle.slots.proofs.Slots.fit.Given as goal
 
 abbrev pub invariant-loop-s : goal.invariant-loop-s

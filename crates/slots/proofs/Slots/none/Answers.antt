@@ -1,6 +1,5 @@
 -- `Slots::none` meets its contract: four free slots, with nothing marked. Assumes nothing.
 use Rattle.slots.proofs.Branches.{none_are}
-use borrow.Author.Rules.{rules}
 use Rattle.slots.proofs.Slots.none.Goals as goal
 
 pub returns : goal.returns

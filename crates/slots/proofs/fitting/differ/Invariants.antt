@@ -1,13 +1,9 @@
 -- `fitting::differ` meets its contract: the slots passed differ from those below them. Assumes nothing.
 use Prim.Native.Nat.{◌≤◌, ◌-◌}
 use mathlib.Core.Path.{◌≡◌}
-use lib.ListN.{length}
-use Rattle.marks.proofs.Slot.{array_length}
 use mathlib.Core.Bool.{true}
 use Rattle.below.specs.Below.{all_below}
-use Rattle.below.proofs.All.{all_none}
-use Rattle.slots.proofs.Branches.{apart, apart_below, differ_stop, differ_more, differ_next, differ_end}
-use borrow.Author.Rules.{rules}
+use Rattle.slots.proofs.Branches.{apart, apart_below}
 use Rattle.slots.proofs.fitting.differ.Given as goal
 
 abbrev pub invariant-loop-t : goal.invariant-loop-t

@@ -1,6 +1,5 @@
 -- `fitting::slot_fits` meets its contract, by the branch that was taken. Assumes nothing.
 use mathlib.Core.Path.{refl}
-use mathlib.Core.Logic.{⊎_elim}
 use Rattle.slots.proofs.Current.{good_same, spent_not}
 use Rattle.slots.proofs.Branches.{fits_unused, fits_ill, fits_spent, fits_held}
 use borrow.Author.Rules.{rules}

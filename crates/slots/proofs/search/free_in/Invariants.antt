@@ -1,15 +1,11 @@
 -- `search::free_in_lem` meets its contract: no slot passed is free. Assumes nothing.
 use Prim.Native.Nat.{◌≤◌, ◌-◌}
-use mathlib.Core.Path.{◌≡◌, ◌∙◌, refl}
-use lib.ListN.{length, get_or}
-use Rattle.marks.proofs.Slot.{array_length}
+use mathlib.Core.Path.{◌≡◌}
+use lib.ListN.{get_or}
 use mathlib.Core.Bool.{true, not}
 use lib.Dec.{eqb}
 use Rattle.below.specs.Below.{none_below}
-use Rattle.below.proofs.Run.{runs, find_none, find_stop, find_more, find_end}
-use Rattle.below.proofs.Tests.{picks}
-use Rattle.slots.proofs.Elements.{past_tag, free_any}
-use borrow.Author.Rules.{rules}
+use Rattle.slots.proofs.Elements.{past_tag}
 use Rattle.slots.proofs.search.free_in.Given as goal
 
 abbrev pub invariant-loop-s : goal.invariant-loop-s

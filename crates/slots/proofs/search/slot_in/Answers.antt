@@ -1,10 +1,7 @@
 -- `search::slot_in` meets its contract: no slot passed is for the view. Assumes nothing.
-use Prim.Native.Nat.{◌≤◌, ◌-◌}
 use mathlib.Core.Path.{◌≡◌, ◌∙◌}
 use lib.ListN.{length, get_or}
 use Rattle.marks.proofs.Slot.{array_length}
-use mathlib.Core.Bool.{true}
-use Rattle.below.specs.Below.{none_below}
 use Rattle.below.proofs.Run.{runs, find_stop, find_more, find_end}
 use Rattle.slots.proofs.Elements.{past_tag, for_view, slot_any}
 use borrow.Author.Rules.{rules}

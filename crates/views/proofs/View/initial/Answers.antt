@@ -1,5 +1,4 @@
 -- `View::initial` meets its contract: no view, with the set of one. Assumes nothing.
-use borrow.Author.Rules.{rules}
 use Rattle.views.proofs.View.initial.Goals as goal
 
 pub returns : goal.returns

@@ -2,7 +2,6 @@
 use mathlib.Core.Path.{refl}
 use Rattle.below.specs.Bits.{bit}
 use Rattle.views.specs.Sets.{has}
-use borrow.Author.Rules.{rules}
 use Rattle.views.proofs.sets.bit.Goals as goal
 
 pub returns : goal.returns

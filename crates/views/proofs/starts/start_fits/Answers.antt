@@ -5,7 +5,6 @@ use mathlib.Core.Path.{◌≡◌, refl}
 use lib.Dec.{eqb}
 use Rattle.below.specs.Bits.{bit}
 use Rattle.views.specs.Sets.{has}
-use borrow.Author.Rules.{rules}
 use Rattle.views.proofs.starts.start_fits.Goals as goal
 
 -- z says that the start number is 0, b that it is a member's

@@ -1,12 +1,10 @@
 -- `starts::starts_fit` meets its contract: `ok` says all start numbers passed. Assumes nothing.
-use borrow.Author.Rules.{rules}
-use Rattle.below.proofs.All.{alls}
 use Rattle.below.specs.Below.{all_below}
 use mathlib.Core.Path.{◌≡◌}
 use Prim.Native.Nat.{◌≤◌, ◌-◌}
 use lib.ListN.{get_or}
 use Rattle.views.specs.Sets.{has}
-use Rattle.views.specs.Views.{starts_fit, start_fits}
+use Rattle.views.specs.Views.{start_fits}
 use Rattle.views.proofs.starts.starts_fit.Given as goal
 
 abbrev pub invariant-loop-n : goal.invariant-loop-n

@@ -1,12 +1,9 @@
 -- `starts::starts_zero` meets its contract: `ok` says all start numbers passed. Assumes nothing.
-use borrow.Author.Rules.{rules}
-use Rattle.below.proofs.All.{alls}
 use Rattle.below.specs.Below.{all_below}
 use mathlib.Core.Path.{◌≡◌}
 use Prim.Native.Nat.{◌≤◌, ◌-◌}
 use lib.ListN.{get_or}
 use lib.Dec.{eqb}
-use Rattle.views.specs.Views.{all_zero}
 use Rattle.views.proofs.starts.starts_zero.Given as goal
 
 abbrev pub invariant-loop-n : goal.invariant-loop-n
