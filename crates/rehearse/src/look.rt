@@ -1,4 +1,5 @@
 // Looking at an end-point, its word area and a channel: nothing changes.
+use crate::text::Page;
 use crate::{channels, say, text};
 use agreement::Row;
 use endpoint::EndPoint;
@@ -6,7 +7,7 @@ use records::Record;
 use slots::Tag;
 use views::View;
 
-fn block(page: &mut [u8; 65536], at: &mut usize, b: u8) {
+fn block(page: &mut Page, at: &mut usize, b: u8) {
     match b {
         0 => text::put(page, at, b" block free\n"),
         1 => text::put(page, at, b" block asked\n"),
@@ -14,7 +15,7 @@ fn block(page: &mut [u8; 65536], at: &mut usize, b: u8) {
     }
 }
 
-fn change(page: &mut [u8; 65536], at: &mut usize, e: EndPoint) {
+fn change(page: &mut Page, at: &mut usize, e: EndPoint) {
     text::part(page, at, b"  start ", e.change.number as u64);
     text::byte(page, at, 32);
     text::set(page, at, e.change.set);
@@ -24,7 +25,7 @@ fn change(page: &mut [u8; 65536], at: &mut usize, e: EndPoint) {
 }
 
 // p's own: its number, views, change, what it declared, passed out and gave out.
-fn own(page: &mut [u8; 65536], at: &mut usize, e: EndPoint) {
+fn own(page: &mut Page, at: &mut usize, e: EndPoint) {
     text::part(page, at, b"  end-point ", e.me as u64);
     text::put(page, at, b"\n  current ");
     text::view(page, at, e.current);
@@ -42,7 +43,7 @@ fn own(page: &mut [u8; 65536], at: &mut usize, e: EndPoint) {
     text::byte(page, at, 10);
 }
 
-fn other(page: &mut [u8; 65536], at: &mut usize, q: usize, v: View, received: u8) {
+fn other(page: &mut Page, at: &mut usize, q: usize, v: View, received: u8) {
     text::part(page, at, b"  announced ", q as u64);
     text::byte(page, at, 32);
     text::view(page, at, v);
@@ -51,7 +52,7 @@ fn other(page: &mut [u8; 65536], at: &mut usize, q: usize, v: View, received: u8
 }
 
 // The view that each other member announced, and how many words came from it there.
-fn others(page: &mut [u8; 65536], at: &mut usize, e: EndPoint) {
+fn others(page: &mut Page, at: &mut usize, e: EndPoint) {
     let heard = e.heard;
     let received = e.received;
     let mut q = 0usize;
@@ -63,7 +64,7 @@ fn others(page: &mut [u8; 65536], at: &mut usize, e: EndPoint) {
     }
 }
 
-fn record(page: &mut [u8; 65536], at: &mut usize, q: u8, x: Record) {
+fn record(page: &mut Page, at: &mut usize, q: u8, x: Record) {
     text::part(page, at, b"  record ", q as u64);
     text::part(page, at, b" ", x.number as u64);
     text::byte(page, at, 32);
@@ -76,7 +77,7 @@ fn record(page: &mut [u8; 65536], at: &mut usize, q: u8, x: Record) {
 }
 
 // Record k of sender q stands at 4q + k.
-fn records_of(page: &mut [u8; 65536], at: &mut usize, held: [Record; 32], q: u8, n: u8) {
+fn records_of(page: &mut Page, at: &mut usize, held: [Record; 32], q: u8, n: u8) {
     let mut k = 0u8;
     while k < 4 {
         let i = q as usize * 4 + k as usize;
@@ -89,7 +90,7 @@ fn records_of(page: &mut [u8; 65536], at: &mut usize, held: [Record; 32], q: u8,
     }
 }
 
-fn records(page: &mut [u8; 65536], at: &mut usize, e: EndPoint) {
+fn records(page: &mut Page, at: &mut usize, e: EndPoint) {
     let kept = e.records;
     let held = kept.held;
     let counts = kept.counts;
@@ -100,7 +101,7 @@ fn records(page: &mut [u8; 65536], at: &mut usize, e: EndPoint) {
     }
 }
 
-fn forwarded(page: &mut [u8; 65536], at: &mut usize, rows: [Row; 8]) {
+fn forwarded(page: &mut Page, at: &mut usize, rows: [Row; 8]) {
     let mut q = 0usize;
     while q < 8 {
         text::part(page, at, b"  forwarded ", q as u64);
@@ -112,7 +113,7 @@ fn forwarded(page: &mut [u8; 65536], at: &mut usize, rows: [Row; 8]) {
     }
 }
 
-fn tag(page: &mut [u8; 65536], at: &mut usize, s: usize, t: Tag) {
+fn tag(page: &mut Page, at: &mut usize, s: usize, t: Tag) {
     text::part(page, at, b"  slot ", s as u64);
     if t.used == 0 {
         text::put(page, at, b" free\n");
@@ -123,7 +124,7 @@ fn tag(page: &mut [u8; 65536], at: &mut usize, s: usize, t: Tag) {
     text::byte(page, at, 10);
 }
 
-fn tags(page: &mut [u8; 65536], at: &mut usize, all: [Tag; 4]) {
+fn tags(page: &mut Page, at: &mut usize, all: [Tag; 4]) {
     let mut s = 0usize;
     while s < 4 {
         tag(page, at, s, all[s]);
@@ -131,7 +132,7 @@ fn tags(page: &mut [u8; 65536], at: &mut usize, all: [Tag; 4]) {
     }
 }
 
-fn word(page: &mut [u8; 65536], at: &mut usize, area: &[u64], s: u8, r: u8, i: u8) {
+fn word(page: &mut Page, at: &mut usize, area: &[u64], s: u8, r: u8, i: u8) {
     let k = slots::place(s, r, i);
     if area.len() <= k {
         return;
@@ -144,7 +145,7 @@ fn word(page: &mut [u8; 65536], at: &mut usize, area: &[u64], s: u8, r: u8, i: u
 }
 
 // The words that are held in slot s of sender r.
-fn words_of(page: &mut [u8; 65536], at: &mut usize, area: &[u64], m: marks::Marks, s: u8, r: u8) {
+fn words_of(page: &mut Page, at: &mut usize, area: &[u64], m: marks::Marks, s: u8, r: u8) {
     let mut i = 1u8;
     while i <= 128 {
         if marks::holds(m, r, i) {
@@ -154,7 +155,7 @@ fn words_of(page: &mut [u8; 65536], at: &mut usize, area: &[u64], m: marks::Mark
     }
 }
 
-fn words_in(page: &mut [u8; 65536], at: &mut usize, area: &[u64], m: marks::Marks, s: u8) {
+fn words_in(page: &mut Page, at: &mut usize, area: &[u64], m: marks::Marks, s: u8) {
     let mut r = 0u8;
     while r < 8 {
         words_of(page, at, area, m, s, r);
@@ -162,7 +163,7 @@ fn words_in(page: &mut [u8; 65536], at: &mut usize, area: &[u64], m: marks::Mark
     }
 }
 
-fn words(page: &mut [u8; 65536], at: &mut usize, area: &[u64], e: EndPoint) {
+fn words(page: &mut Page, at: &mut usize, area: &[u64], e: EndPoint) {
     let held = e.slots;
     let all = held.tags;
     let rows = held.marks;
@@ -177,7 +178,7 @@ fn words(page: &mut [u8; 65536], at: &mut usize, area: &[u64], e: EndPoint) {
 }
 
 // The whole end-point.
-pub(crate) fn show(page: &mut [u8; 65536], at: &mut usize, e: EndPoint, area: &[u64]) {
+pub(crate) fn show(page: &mut Page, at: &mut usize, e: EndPoint, area: &[u64]) {
     text::put(page, at, b"0\n");
     own(page, at, e);
     others(page, at, e);
@@ -191,7 +192,7 @@ pub(crate) fn show(page: &mut [u8; 65536], at: &mut usize, e: EndPoint, area: &[
 }
 
 // Each place of the area whose word is not zero.
-pub(crate) fn area(page: &mut [u8; 65536], at: &mut usize, area: &[u64]) {
+pub(crate) fn area(page: &mut Page, at: &mut usize, area: &[u64]) {
     text::put(page, at, b"0\n");
     let mut i = 0;
     while i < area.len() {
@@ -208,7 +209,7 @@ pub(crate) fn area(page: &mut [u8; 65536], at: &mut usize, area: &[u64]) {
 fn message(
     packets: &[u8; 1048576],
     rings: &[usize; 128],
-    page: &mut [u8; 65536],
+    page: &mut Page,
     at: &mut usize,
     p: u8,
     q: u8,
@@ -225,7 +226,7 @@ fn message(
 pub(crate) fn channel(
     packets: &[u8; 1048576],
     rings: &[usize; 128],
-    page: &mut [u8; 65536],
+    page: &mut Page,
     at: &mut usize,
     p: u8,
     q: u8,

@@ -1,6 +1,7 @@
 // A whole script, played: eight end-points with their word areas, the channels between them, a command a line.
 use crate::commands::{Command, Fault, Step};
 use crate::lines::Fields;
+use crate::text::Page;
 use crate::{channels, commands, lines, look, say, steps, text};
 use endpoint::EndPoint;
 use views::sets;
@@ -12,7 +13,7 @@ struct After {
     made: u8,
 }
 
-fn fresh(e: EndPoint, made: u8, page: &mut [u8; 65536], at: &mut usize, p: u8) -> After {
+fn fresh(e: EndPoint, made: u8, page: &mut Page, at: &mut usize, p: u8) -> After {
     if sets::contains(made, p) {
         say::fault(page, at, Fault::Made);
         return After { ep: e, made };
@@ -32,7 +33,7 @@ fn lose(
     declared: u8,
     made: u8,
     rings: &mut [usize; 128],
-    page: &mut [u8; 65536],
+    page: &mut Page,
     at: &mut usize,
     p: u8,
     q: u8,
@@ -70,7 +71,7 @@ fn at_own(
     areas: &mut [u64],
     packets: &mut [u8; 1048576],
     rings: &mut [usize; 128],
-    page: &mut [u8; 65536],
+    page: &mut Page,
     at: &mut usize,
 ) -> EndPoint {
     let a = (e.me % 8) as usize * 4096;
@@ -90,7 +91,7 @@ fn command(
     areas: &mut [u64; 32768],
     packets: &mut [u8; 1048576],
     rings: &mut [usize; 128],
-    page: &mut [u8; 65536],
+    page: &mut Page,
     at: &mut usize,
 ) -> After {
     match c {
@@ -129,7 +130,7 @@ fn turn(
     areas: &mut [u64; 32768],
     packets: &mut [u8; 1048576],
     rings: &mut [usize; 128],
-    page: &mut [u8; 65536],
+    page: &mut Page,
     at: &mut usize,
 ) -> After {
     text::number(page, at, number);
@@ -143,7 +144,7 @@ pub(crate) fn play(
     areas: &mut [u64; 32768],
     packets: &mut [u8; 1048576],
     rings: &mut [usize; 128],
-    page: &mut [u8; 65536],
+    page: &mut Page,
 ) {
     let mut at = 0usize;
     let first = EndPoint::fresh(0);

@@ -1,10 +1,11 @@
 // The answers, in words: each ends its line.
 use crate::commands::Fault;
 use crate::text;
+use crate::text::Page;
 use views::View;
 
 // Why a step was refused.
-fn reason(page: &mut [u8; 65536], at: &mut usize, number: u8) {
+fn reason(page: &mut Page, at: &mut usize, number: u8) {
     match number {
         1 => text::put(page, at, b" malformed, unsound or from oneself"),
         2 => text::put(page, at, b" a member that is needed is absent"),
@@ -26,13 +27,13 @@ fn reason(page: &mut [u8; 65536], at: &mut usize, number: u8) {
 }
 
 // A step's number: 0 alone where it was accepted, and else with the reason.
-pub(crate) fn number(page: &mut [u8; 65536], at: &mut usize, n: u8) {
+pub(crate) fn number(page: &mut Page, at: &mut usize, n: u8) {
     text::number(page, at, n as u64);
     reason(page, at, n);
     text::byte(page, at, 10);
 }
 
-fn words(page: &mut [u8; 65536], at: &mut usize, f: Fault) {
+fn words(page: &mut Page, at: &mut usize, f: Fault) {
     match f {
         Fault::Name => text::put(page, at, b"no such command"),
         Fault::Count => text::put(page, at, b"another number of fields than the command has"),
@@ -57,25 +58,25 @@ fn words(page: &mut [u8; 65536], at: &mut usize, f: Fault) {
     }
 }
 
-pub(crate) fn fault(page: &mut [u8; 65536], at: &mut usize, f: Fault) {
+pub(crate) fn fault(page: &mut Page, at: &mut usize, f: Fault) {
     text::put(page, at, b"error ");
     words(page, at, f);
     text::byte(page, at, 10);
 }
 
-pub(crate) fn declared(page: &mut [u8; 65536], at: &mut usize, set: u8) {
+pub(crate) fn declared(page: &mut Page, at: &mut usize, set: u8) {
     text::put(page, at, b"0 ");
     text::set(page, at, set);
     text::byte(page, at, 10);
 }
 
 // A message's bytes, as many as its kind has.
-pub(crate) fn message(page: &mut [u8; 65536], at: &mut usize, bytes: &[u8; 64]) {
+pub(crate) fn message(page: &mut Page, at: &mut usize, bytes: &[u8; 64]) {
     let n = messages::length_of(bytes[0]) as usize;
     text::hex(page, at, text::first(bytes, n));
 }
 
-pub(crate) fn sent(page: &mut [u8; 65536], at: &mut usize, set: u8, bytes: &[u8; 64]) {
+pub(crate) fn sent(page: &mut Page, at: &mut usize, set: u8, bytes: &[u8; 64]) {
     text::put(page, at, b"0 to ");
     text::set(page, at, set);
     text::byte(page, at, 32);
@@ -83,13 +84,13 @@ pub(crate) fn sent(page: &mut [u8; 65536], at: &mut usize, set: u8, bytes: &[u8;
     text::byte(page, at, 10);
 }
 
-pub(crate) fn word(page: &mut [u8; 65536], at: &mut usize, w: u64) {
+pub(crate) fn word(page: &mut Page, at: &mut usize, w: u64) {
     text::part(page, at, b"0 ", w);
     text::byte(page, at, 10);
 }
 
 // A batch: how many words, and the words.
-pub(crate) fn batch(page: &mut [u8; 65536], at: &mut usize, count: u64, out: &[u64]) {
+pub(crate) fn batch(page: &mut Page, at: &mut usize, count: u64, out: &[u64]) {
     text::part(page, at, b"0 ", count);
     let mut i = 0;
     while i < out.len() {
@@ -102,7 +103,7 @@ pub(crate) fn batch(page: &mut [u8; 65536], at: &mut usize, count: u64, out: &[u
     text::byte(page, at, 10);
 }
 
-pub(crate) fn installed(page: &mut [u8; 65536], at: &mut usize, v: View, set: u8) {
+pub(crate) fn installed(page: &mut Page, at: &mut usize, v: View, set: u8) {
     text::put(page, at, b"0 ");
     text::view(page, at, v);
     text::put(page, at, b" T ");

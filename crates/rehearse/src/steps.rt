@@ -1,11 +1,12 @@
 // One command on one end-point: the library's step, its effect on the channels, its answer. The end-point after it comes back.
 use crate::commands::{Fault, Step};
 use crate::lines::Fields;
+use crate::text::Page;
 use crate::{channels, lines, look, say, text, values};
 use endpoint::{Answer, EndPoint};
 
 // A step that gives nothing.
-fn plain(page: &mut [u8; 65536], at: &mut usize, a: Answer) -> EndPoint {
+fn plain(page: &mut Page, at: &mut usize, a: Answer) -> EndPoint {
     say::number(page, at, a.number);
     a.ep
 }
@@ -14,7 +15,7 @@ fn plain(page: &mut [u8; 65536], at: &mut usize, a: Answer) -> EndPoint {
 fn sends(
     packets: &mut [u8; 1048576],
     rings: &mut [usize; 128],
-    page: &mut [u8; 65536],
+    page: &mut Page,
     at: &mut usize,
     before: EndPoint,
     a: Answer,
@@ -45,7 +46,7 @@ fn receive(
     area: &mut [u64],
     packets: &[u8; 1048576],
     rings: &mut [usize; 128],
-    page: &mut [u8; 65536],
+    page: &mut Page,
     at: &mut usize,
     q: u8,
 ) -> EndPoint {
@@ -73,7 +74,7 @@ fn bytes_from(
     area: &mut [u64],
     line: &[u8],
     f: Fields,
-    page: &mut [u8; 65536],
+    page: &mut Page,
     at: &mut usize,
     q: u8,
 ) -> EndPoint {
@@ -87,7 +88,7 @@ fn bytes_from(
     plain(page, at, receive_bytes(e, area, q, &bytes, n))
 }
 
-fn view(e: EndPoint, line: &[u8], f: Fields, page: &mut [u8; 65536], at: &mut usize) -> EndPoint {
+fn view(e: EndPoint, line: &[u8], f: Fields, page: &mut Page, at: &mut usize) -> EndPoint {
     let v = values::view(line, f);
     if !v.ok {
         say::fault(page, at, Fault::View);
@@ -96,7 +97,7 @@ fn view(e: EndPoint, line: &[u8], f: Fields, page: &mut [u8; 65536], at: &mut us
     plain(page, at, e.membership_view(v.value))
 }
 
-fn declare(e: EndPoint, page: &mut [u8; 65536], at: &mut usize) -> EndPoint {
+fn declare(e: EndPoint, page: &mut Page, at: &mut usize) -> EndPoint {
     let a = e.declare();
     if a.number != 0 {
         return plain(page, at, a);
@@ -105,7 +106,7 @@ fn declare(e: EndPoint, page: &mut [u8; 65536], at: &mut usize) -> EndPoint {
     a.ep
 }
 
-fn give(e: EndPoint, area: &[u64], page: &mut [u8; 65536], at: &mut usize, q: u8) -> EndPoint {
+fn give(e: EndPoint, area: &[u64], page: &mut Page, at: &mut usize, q: u8) -> EndPoint {
     let a = e.give_out(area, q);
     if a.number != 0 {
         return plain(page, at, a);
@@ -118,7 +119,7 @@ fn batch(
     e: EndPoint,
     area: &[u64],
     out: &mut [u64],
-    page: &mut [u8; 65536],
+    page: &mut Page,
     at: &mut usize,
     q: u8,
 ) -> EndPoint {
@@ -135,7 +136,7 @@ fn batch(
 fn batch_of(
     e: EndPoint,
     area: &[u64],
-    page: &mut [u8; 65536],
+    page: &mut Page,
     at: &mut usize,
     q: u8,
     room: u8,
@@ -148,7 +149,7 @@ fn batch_of(
     batch(e, area, &mut out[..k], page, at, q)
 }
 
-fn install(e: EndPoint, page: &mut [u8; 65536], at: &mut usize) -> EndPoint {
+fn install(e: EndPoint, page: &mut Page, at: &mut usize) -> EndPoint {
     let a = e.install();
     if a.number != 0 {
         return plain(page, at, a);
@@ -157,17 +158,17 @@ fn install(e: EndPoint, page: &mut [u8; 65536], at: &mut usize) -> EndPoint {
     a.ep
 }
 
-fn show(e: EndPoint, area: &[u64], page: &mut [u8; 65536], at: &mut usize) -> EndPoint {
+fn show(e: EndPoint, area: &[u64], page: &mut Page, at: &mut usize) -> EndPoint {
     look::show(page, at, e, area);
     e
 }
 
-fn words(e: EndPoint, area: &[u64], page: &mut [u8; 65536], at: &mut usize) -> EndPoint {
+fn words(e: EndPoint, area: &[u64], page: &mut Page, at: &mut usize) -> EndPoint {
     look::area(page, at, area);
     e
 }
 
-fn wrong(e: EndPoint, page: &mut [u8; 65536], at: &mut usize, f: Fault) -> EndPoint {
+fn wrong(e: EndPoint, page: &mut Page, at: &mut usize, f: Fault) -> EndPoint {
     say::fault(page, at, f);
     e
 }
@@ -181,7 +182,7 @@ pub(crate) fn step(
     area: &mut [u64],
     packets: &mut [u8; 1048576],
     rings: &mut [usize; 128],
-    page: &mut [u8; 65536],
+    page: &mut Page,
     at: &mut usize,
 ) -> EndPoint {
     match s {

@@ -10,9 +10,17 @@ mod show;
 mod steps;
 mod turns;
 
-fn main() {
+use show::Output;
+use std::io;
+
+fn main(rt: HostRuntime) -> io::Result<()> {
     let mut area = [0u64; 4096];
-    early::play(&mut area);
-    agreed::play(&mut area);
-    late::play(&mut area);
+    let mut output = Output {
+        out: rt.stdout(),
+        failed: Ok(()),
+    };
+    early::play(&mut area, &mut output);
+    agreed::play(&mut area, &mut output);
+    late::play(&mut area, &mut output);
+    output.failed
 }

@@ -1,4 +1,5 @@
 // A step done so many times. Word i of member 2 is 20 + i, and so is own word i.
+use crate::show::Output;
 use crate::steps;
 use endpoint::EndPoint;
 use messages::Message;
@@ -19,28 +20,42 @@ pub(crate) enum Turn {
     Owed(u8),
 }
 
-fn once(e: EndPoint, area: &mut [u64; 4096], t: Turn, i: u8) -> EndPoint {
+fn once(e: EndPoint, area: &mut [u64; 4096], t: Turn, i: u8, output: &mut Output) -> EndPoint {
     let w = 20 + i as u64;
     match t {
-        Turn::Send => steps::send(e, area, w),
-        Turn::Pass => steps::pass_out(e, area),
-        Turn::Word => steps::receive(e, area, b"word", 2, Message::of_word(w)),
-        Turn::Give => steps::give_out(e, area, 2),
+        Turn::Send => steps::send(e, area, w, output),
+        Turn::Pass => steps::pass_out(e, area, output),
+        Turn::Word => steps::receive(e, area, b"word", 2, Message::of_word(w), output),
+        Turn::Give => steps::give_out(e, area, 2, output),
         Turn::Through(q) => {
             let v = e.current;
-            steps::receive(e, area, b"forward", q, Message::of_forward(2, i, v, w))
+            steps::receive(
+                e,
+                area,
+                b"forward",
+                q,
+                Message::of_forward(2, i, v, w),
+                output,
+            )
         }
-        Turn::Owed(q) => steps::forward(e, area, q, 2),
+        Turn::Owed(q) => steps::forward(e, area, q, 2, output),
     }
 }
 
 // Turns done + 1 to last.
-pub(crate) fn turns(e: EndPoint, area: &mut [u64; 4096], t: Turn, done: u8, last: u8) -> EndPoint {
+pub(crate) fn turns(
+    e: EndPoint,
+    area: &mut [u64; 4096],
+    t: Turn,
+    done: u8,
+    last: u8,
+    output: &mut Output,
+) -> EndPoint {
     let mut at = e;
     let mut i = done;
     while i < last {
         i += 1;
-        let next = once(at, area, t, i);
+        let next = once(at, area, t, i, output);
         at = next;
     }
     at
