@@ -2,6 +2,8 @@
 // Reading a line is in lines, values and commands; playing it in play, steps and channels; writing the answer in say, look and text.
 #![tactic(auto)]
 
+ghost use Rattle.std.specs.Prelude.{◌≤◌, IfOk, length};
+
 mod channels;
 mod commands;
 mod lines;
@@ -24,7 +26,9 @@ fn too_long(page: &mut Page) {
 }
 
 // Reads until the room is full or the input ends, and returns how many bytes it put at the room's start.
-fn read_full(mut input: Stdin, room: &mut [u8]) -> io::Result<usize> {
+fn read_full(mut input: Stdin, room: &mut [u8]) -> io::Result<usize>
+    ensures { IfOk result (λ n. n ≤ length room.new) }
+{
     let mut done = 0;
     while done < room.len() {
         let n = input.read(&mut room[done..])?;

@@ -1,5 +1,5 @@
 -- A session played on the definitions: events one after the other, and the numbers that they give. Assumes nothing.
-use Rattle.std.specs.Prelude.{ℕ, List, [], ◌∷◌, ◌++◌, replicate}
+use Rattle.std.specs.Prelude.{ℕ, List, [], ◌∷◌, replicate}
 use Rattle.views.specs.declared.View.{View}
 use Rattle.views.specs.declared.Cut.{Cut}
 use Rattle.endpoint.specs.declared.EndPoint.{EndPoint}

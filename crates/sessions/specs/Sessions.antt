@@ -1,6 +1,6 @@
 -- "Sessions at the edges", 1 to 11, for end-point 0: a table of what each gives and what it is to give. Sets are bytes: {0} is 1, {0,1} is 3, {0,1,2} is 7.
 -- Session 12 is run. Assumes nothing.
-use Rattle.std.specs.Prelude.{ℕ, ◌+◌, ◌≡◌, Bool, true, false, cond, not, List, [], ◌∷◌, ◌++◌, length, get_or, replicate}
+use Rattle.std.specs.Prelude.{ℕ, ◌+◌, ◌≡◌, Bool, cond, List, [], ◌∷◌, ◌++◌, length, get_or, replicate}
 use Rattle.below.specs.Below.{list_below}
 use Rattle.views.specs.declared.View.{View}
 use Rattle.messages.specs.Messages.{of_view, of_word, of_sync}
@@ -11,7 +11,7 @@ use Rattle.endpoint.specs.Fresh.{fresh}
 use Rattle.endpoint.specs.Ready.{T, in_t, agreed}
 use Rattle.endpoint.specs.Due.{due, owes}
 use Rattle.endpoint.specs.Give.{batch}
-use Rattle.endpoint.specs.Steps.{Event, send, block_ok, start_change, membership_view, receive, ask_to_block, declare, announce, pass_out, sync, forward, give_out, install}
+use Rattle.endpoint.specs.Steps.{Event, send, block_ok, start_change, membership_view, receive, ask_to_block, declare, announce, pass_out, sync, give_out, install}
 use Rattle.sessions.specs.Play.{Desk, desk, after, answers, numbers, view_of, cut_of}
 
 -- a row: the session, what it gave, what it is to give

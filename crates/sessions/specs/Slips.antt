@@ -1,16 +1,16 @@
 -- "Slips this trade has seen": each as the definition that it would be, and a desk on which it gives another answer. Assumes nothing.
-use Rattle.std.specs.Prelude.{ℕ, ◌+◌, ◌-◌, ◌%◌, Bool, ◌&&◌, List, [], ◌∷◌, ◌++◌, eqb, ltb, replicate, get_or}
+use Rattle.std.specs.Prelude.{ℕ, ◌-◌, ◌%◌, Bool, ◌&&◌, [], ◌∷◌, ◌++◌, eqb, ltb, replicate}
 use Rattle.views.specs.Views.{start_of}
 use Rattle.views.specs.Cuts.{count_of}
 use Rattle.records.specs.Records.{record_at, record_count}
 use Rattle.slots.specs.Slots.{place}
-use Rattle.messages.specs.Messages.{of_view, of_word, of_sync}
+use Rattle.messages.specs.Messages.{of_sync}
 use Rattle.endpoint.specs.declared.EndPoint.{EndPoint}
 use Rattle.endpoint.specs.State.{with_forwarded, is_open}
 use Rattle.endpoint.specs.Fresh.{fresh}
 use Rattle.agreement.specs.Named.{in_both}
 use Rattle.endpoint.specs.Ready.{named_held, named}
-use Rattle.endpoint.specs.Steps.{Event, step, start_change, membership_view, receive, sync, forward}
+use Rattle.endpoint.specs.Steps.{start_change, membership_view, receive, sync, forward}
 use Rattle.sessions.specs.Play.{Desk, desk, after, view_of, cut_of}
 use Rattle.sessions.specs.Sessions.{enter, leave, words, synced, three, two, four, others}
 
