@@ -1,0 +1,33 @@
+// What C links: each call of nhuoseng under its C name, with the same promise; the end-point's steps are in steps.
+// include/nhuoseng.h declares them, tools/archive builds libnhuoseng.a of them.
+#![tactic(auto)]
+
+mod steps;
+
+ghost use Rattle.std.specs.Prelude.{◌≡◌, ◌≤◌};
+ghost use Rattle.messages.specs.Layouts.{length_of};
+ghost use Rattle.messages.specs.Fields.{read_number, fields_read, number_written, area_written};
+
+// How many bytes a message of this kind has: 0 where the number is no kind.
+#[unsafe(no_mangle)]
+pub extern "C" fn nh_length(kind: u8) -> u8
+    ensures { result ≡ length_of kind }
+{
+    nhuoseng::nh_length(kind)
+}
+
+// 0, and the message that the bytes are in the field area; or 1, and the field area as it was.
+#[unsafe(no_mangle)]
+pub extern "C" fn nh_read(bytes: &[u8], fields: &mut [u64]) -> u8
+    ensures { (result ≡ read_number bytes.now fields.old) × (fields.new ≡ fields_read bytes.now fields.old) }
+{
+    nhuoseng::nh_read(bytes, fields)
+}
+
+// 0, and the message that the fields are at the area's start; or 1, and the area as it was.
+#[unsafe(no_mangle)]
+pub extern "C" fn nh_write(fields: &[u64], area: &mut [u8]) -> u8
+    ensures { (result ≡ number_written fields.now area.old) × (area.new ≡ area_written fields.now area.old) }
+{
+    nhuoseng::nh_write(fields, area)
+}

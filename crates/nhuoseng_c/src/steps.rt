@@ -1,0 +1,128 @@
+// The end-point for C: fresh, each step and the batch, by value.
+ghost use Rattle.std.specs.Prelude.{[], ◌≡◌, length};
+ghost use Rattle.endpoint.specs.Give.{batch_answer, batch_area};
+ghost use Rattle.endpoint.specs.Steps.{step, area_after, fresh_step, send as send_of, block_ok, start_change, membership_view, receive as receive_of, ask_to_block, declare as declare_of, announce as announce_of, pass_out, sync as sync_of, forward as forward_of, give_out, install as install_of};
+
+use endpoint::{Answer, Batch, EndPoint};
+use messages::Message;
+use views::View;
+
+// Fresh end-point p; 1 above 7.
+#[unsafe(no_mangle)]
+pub extern "C" fn nh_fresh(p: u8) -> Answer
+    ensures { result ≡ fresh_step p }
+{
+    nhuoseng::steps::nh_fresh(p)
+}
+
+// Application send: 1, 5, 6.
+#[unsafe(no_mangle)]
+pub extern "C" fn nh_send(e: EndPoint, area: &mut [u64], w: u64) -> Answer
+    ensures { (result ≡ step (send_of w) e area.old) × (area.new ≡ area_after (send_of w) e area.old) }
+{
+    nhuoseng::steps::nh_send(e, area, w)
+}
+
+// Block-ok: 1, 4.
+#[unsafe(no_mangle)]
+pub extern "C" fn nh_block_ok(e: EndPoint) -> Answer
+    ensures { result ≡ step block_ok e [] }
+{
+    nhuoseng::steps::nh_block_ok(e)
+}
+
+// Start change: 1, 2, 3.
+#[unsafe(no_mangle)]
+pub extern "C" fn nh_start_change(e: EndPoint, number: u32, set: u8) -> Answer
+    ensures { result ≡ step (start_change number set) e [] }
+{
+    nhuoseng::steps::nh_start_change(e, number, set)
+}
+
+// Membership view: 1 to 4.
+#[unsafe(no_mangle)]
+pub extern "C" fn nh_membership_view(e: EndPoint, v: View) -> Answer
+    ensures { result ≡ step (membership_view v) e [] }
+{
+    nhuoseng::steps::nh_membership_view(e, v)
+}
+
+// Receive from q: 1, 2, 3, 4, 6, 7, 14.
+#[unsafe(no_mangle)]
+pub extern "C" fn nh_receive(e: EndPoint, area: &mut [u64], q: u8, m: Message) -> Answer
+    ensures { (result ≡ step (receive_of q m) e area.old) × (area.new ≡ area_after (receive_of q m) e area.old) }
+{
+    nhuoseng::steps::nh_receive(e, area, q, m)
+}
+
+// Ask to block: 1, 4.
+#[unsafe(no_mangle)]
+pub extern "C" fn nh_ask_to_block(e: EndPoint) -> Answer
+    ensures { result ≡ step ask_to_block e [] }
+{
+    nhuoseng::steps::nh_ask_to_block(e)
+}
+
+// Declare: 1.
+#[unsafe(no_mangle)]
+pub extern "C" fn nh_declare(e: EndPoint) -> Answer
+    ensures { result ≡ step declare_of e [] }
+{
+    nhuoseng::steps::nh_declare(e)
+}
+
+// Announce: 1, 8, 10.
+#[unsafe(no_mangle)]
+pub extern "C" fn nh_announce(e: EndPoint) -> Answer
+    ensures { result ≡ step announce_of e [] }
+{
+    nhuoseng::steps::nh_announce(e)
+}
+
+// Pass out: 1, 4, 10.
+#[unsafe(no_mangle)]
+pub extern "C" fn nh_pass_out(e: EndPoint, area: &[u64]) -> Answer
+    ensures { result ≡ step pass_out e area.now }
+{
+    nhuoseng::steps::nh_pass_out(e, area)
+}
+
+// Sync: 1, 4, 8.
+#[unsafe(no_mangle)]
+pub extern "C" fn nh_sync(e: EndPoint) -> Answer
+    ensures { result ≡ step sync_of e [] }
+{
+    nhuoseng::steps::nh_sync(e)
+}
+
+// Forward to q of r: 1, 4, 9, 10.
+#[unsafe(no_mangle)]
+pub extern "C" fn nh_forward(e: EndPoint, area: &[u64], q: u8, r: u8) -> Answer
+    ensures { result ≡ step (forward_of q r) e area.now }
+{
+    nhuoseng::steps::nh_forward(e, area, q, r)
+}
+
+// Give out from q: 1, 2, 10, 11.
+#[unsafe(no_mangle)]
+pub extern "C" fn nh_give_out(e: EndPoint, area: &[u64], q: u8) -> Answer
+    ensures { result ≡ step (give_out q) e area.now }
+{
+    nhuoseng::steps::nh_give_out(e, area, q)
+}
+
+// Install: 1, 4, 9, 12, 13, 15.
+#[unsafe(no_mangle)]
+pub extern "C" fn nh_install(e: EndPoint) -> Answer
+    ensures { result ≡ step install_of e [] }
+{
+    nhuoseng::steps::nh_install(e)
+}
+
+// Batch from q: 1, 2.
+#[unsafe(no_mangle)]
+pub extern "C" fn nh_give_batch(e: EndPoint, area: &[u64], q: u8, out: &mut [u64]) -> Batch
+    ensures { (result ≡ batch_answer e area.now q (length out.old)) × (out.new ≡ batch_area e area.now q out.old) }
+{
+    nhuoseng::steps::nh_give_batch(e, area, q, out)
+}
