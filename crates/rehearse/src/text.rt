@@ -1,4 +1,6 @@
 // Text on its way to standard output: a page that goes out when it is full, and the place up to which it is filled.
+ghost use Rattle.std.specs.Prelude.{◌≡◌, OnErr, OnOk};
+
 use itoa::Buffer;
 use std::io;
 use std::io::Stdout;
@@ -20,12 +22,20 @@ pub(crate) fn first(bytes: &[u8], n: usize) -> &[u8] {
     &bytes[..n]
 }
 
-// What the page holds goes out.
-pub(crate) fn flush(page: &mut Page, at: &mut usize) {
-    let written = page.out.write_all(first(&page.bytes, *at));
+// The first error stays.
+fn note(page: &mut Page, written: io::Result<()>)
+    ensures kept { OnErr page.old.failed (page.new.failed ≡ page.old.failed) }
+    ensures taken { OnOk page.old.failed (page.new.failed ≡ written) }
+{
     if page.failed.is_ok() {
         page.failed = written;
     }
+}
+
+// What the page holds goes out.
+pub(crate) fn flush(page: &mut Page, at: &mut usize) {
+    let written = page.out.write_all(first(&page.bytes, *at));
+    note(page, written);
     *at = 0;
 }
 

@@ -1,4 +1,6 @@
 // Plain text on standard output.
+ghost use Rattle.std.specs.Prelude.{◌≡◌, OnErr, OnOk};
+
 use std::io;
 use std::io::Stdout;
 
@@ -9,7 +11,11 @@ pub(crate) struct Output {
     pub failed: io::Result<()>,
 }
 
-fn note(output: &mut Output, written: io::Result<()>) {
+// The first error stays.
+fn note(output: &mut Output, written: io::Result<()>)
+    ensures kept { OnErr output.old.failed (output.new.failed ≡ output.old.failed) }
+    ensures taken { OnOk output.old.failed (output.new.failed ≡ written) }
+{
     if output.failed.is_ok() {
         output.failed = written;
     }
