@@ -355,6 +355,16 @@ enum nh_number {
  */
 nh_answer nh_fresh(uint8_t p);
 
+/* 1 where the end-point is sound, 0 where it is not: every other call then gives 1. */
+uint8_t nh_sound(nh_endpoint e);
+
+/*
+ * 1 where a view is ready, 0 where none is: a change is pending, the latest
+ * membership view's id is above the current one's and its start number for p is
+ * the latest. nh_forward and nh_install give 4 where none is.
+ */
+uint8_t nh_ready(nh_endpoint e);
+
 /*
  * The application sends a word: it is appended to p's own in the current view.
  * 5 while blocked; 6 where 128 are there.

@@ -13,3 +13,6 @@ pub mod Agreed
 pub mod Receiving
 pub mod Batching
 pub mod Sent
+pub mod Known
+pub mod Ranges
+pub mod Ordered

@@ -13,5 +13,7 @@ pub mod Forward
 pub mod Give
 pub mod Install
 pub mod Steps
+pub mod Order
+pub mod Reached
 pub mod Pass
 pub mod Opened

@@ -10,6 +10,7 @@ mod give;
 mod install;
 mod membership;
 mod own;
+mod ready;
 mod receive;
 mod sound;
 

@@ -92,3 +92,12 @@ pub(crate) fn unfit(ok: bool, area: &[u64]) -> bool
 {
     !ok | !(area.len() == 4096)
 }
+
+impl EndPoint {
+    // Whether the end-point is sound: every step gives 1 on one that is not.
+    pub fn sound(self) -> bool
+        ensures { result ≡ sound_of self }
+    {
+        sound(self)
+    }
+}

@@ -1,6 +1,8 @@
-// The end-point for C: fresh, each step and the batch, by value.
-ghost use Rattle.std.specs.Prelude.{[], ◌≡◌, length};
+// The end-point for C: fresh, sound, ready, each step and the batch, by value.
+ghost use Rattle.std.specs.Prelude.{[], ◌≡◌, cond, length};
 ghost use Rattle.endpoint.specs.Give.{batch_answer, batch_area};
+ghost use Rattle.endpoint.specs.Ready.{ready as ready_of};
+ghost use Rattle.endpoint.specs.Sound.{sound as sound_of};
 ghost use Rattle.endpoint.specs.Steps.{step, area_after, fresh_step, send as send_of, block_ok, start_change, membership_view, receive as receive_of, ask_to_block, declare as declare_of, announce as announce_of, pass_out, sync as sync_of, forward as forward_of, give_out, install as install_of};
 
 use endpoint::{Answer, Batch, EndPoint};
@@ -13,6 +15,22 @@ pub extern "C" fn nh_fresh(p: u8) -> Answer
     ensures { result ≡ fresh_step p }
 {
     nhuoseng::steps::nh_fresh(p)
+}
+
+// 1 where the end-point is sound, 0 where it is not.
+#[unsafe(no_mangle)]
+pub extern "C" fn nh_sound(e: EndPoint) -> u8
+    ensures { result ≡ cond (sound_of e) 1 0 }
+{
+    nhuoseng::steps::nh_sound(e)
+}
+
+// 1 where a view is ready, 0 where none is.
+#[unsafe(no_mangle)]
+pub extern "C" fn nh_ready(e: EndPoint) -> u8
+    ensures { result ≡ cond (ready_of e) 1 0 }
+{
+    nhuoseng::steps::nh_ready(e)
 }
 
 // Application send: 1, 5, 6.
