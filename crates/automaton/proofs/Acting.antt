@@ -133,12 +133,12 @@ module _ {D : Domain} {n p : ℕ} {A : Accepted D} {M : Records D} {s : State D}
       low_case j y e (yes q) = omega arith
       low_case j y e (no f) = h.recording.low j y (sym (else j f) ∙ e)
 
-  after_give : (q : ℕ) (w : D.Word) (gaveOut' : OutLog D) (given' : ℕ → ℕ)
+  after_give : (q : ℕ) (w : D.Word) (gave_out' : OutLog D) (given' : ℕ → ℕ)
       → D.has s.current q ≡ true → s.words s.current q (s.given q) ≡ some w
       → given' q ≡ suc (s.given q) → ((r : ℕ) → (r ≡ q → ⊥) → given' r ≡ s.given r)
-      → gaveOut' s.current q ≡ s.gave_out s.current q ++ (w ∷ []) → ((v : D.View) (r : ℕ) → (v ≡ s.current → r ≡ q → ⊥) → gaveOut' v r ≡ s.gave_out v r)
-      → Invariant D n p A M (with_given gaveOut' given' s)
-  after_give q w gaveOut' given' member word one_more given-else more else = record {
+      → gave_out' s.current q ≡ s.gave_out s.current q ++ (w ∷ []) → ((v : D.View) (r : ℕ) → (v ≡ s.current → r ≡ q → ⊥) → gave_out' v r ≡ s.gave_out v r)
+      → Invariant D n p A M (with_given gave_out' given' s)
+  after_give q w gave_out' given' member word one_more given-else more else = record {
     holding = h.holding;
     giving = record {
       first = λ v r. first_case v r (same_or_not D v s.current) (ℕ_discrete r q);
@@ -156,11 +156,11 @@ module _ {D : Domain} {n p : ℕ} {A : Accepted D} {M : Records D} {s : State D}
       new_case i x (inl e) = h.giving.first s.current q i x e
       new_case i x (inr e) = let a = e.0 in let b = e.1 in let c = h.holding.held s.current q (s.given q) w word in let d = h.giving.count q in cc
 
-      count_case : (r : ℕ) → Dec (r ≡ q) → given' r ≡ length (gaveOut' s.current r)
+      count_case : (r : ℕ) → Dec (r ≡ q) → given' r ≡ length (gave_out' s.current r)
       count_case r (yes e) = rw (e, more, one_more, h.giving.count q, length-append (s.gave_out s.current q) (w ∷ [])) (omega arith)
       count_case r (no f) = rw (else s.current r (λ a b. f b), given-else r f) (h.giving.count r)
 
-      first_case : (v : D.View) (r : ℕ) → Dec (v ≡ s.current) → Dec (r ≡ q) → Prefix (gaveOut' v r) (A r v)
+      first_case : (v : D.View) (r : ℕ) → Dec (v ≡ s.current) → Dec (r ≡ q) → Prefix (gave_out' v r) (A r v)
       first_case v r (no f) b = rw (else v r (λ a b. f a)) (h.giving.first v r)
       first_case v r (yes a) (no f) = rw (else v r (λ a b. f b)) (h.giving.first v r)
       first_case v r (yes a) (yes b) = rw (a, b, more) (λ i x e. new_case i x (at_cases (s.gave_out s.current q) w i x e))
@@ -305,5 +305,5 @@ kept lt (pass_out d w said word within to) h eA eM right = record {
 }
 kept lt (sync d x records' made' pending block none-held view run make else hold stored) h eA eM right = after_sync_lem h x records' made' pending block view run make else hold stored eM
 kept lt (forward d r v i w word) h eA eM right = h
-kept lt (give_out q w gaveOut' given' member word one_more given-else more else) h eA eM right = after_give h q w gaveOut' given' member word one_more given-else more else
+kept lt (give_out q w gave_out' given' member word one_more given-else more else) h eA eM right = after_give h q w gave_out' given' member word one_more given-else more else
 kept lt (install words' given' up pending start was is held given fewer none-given) h eA eM right = after_install_lem h words' given' lt up pending start was is held given fewer none-given eA eM

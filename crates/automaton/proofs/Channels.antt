@@ -47,7 +47,7 @@ end_stays (announce d unsaid covers to) b ne not-to o e = λ t m. absurd (true�
 end_stays (pass_out d w said word within to) b ne not-to o e = λ t m. absurd (true≢false (sym (to b m ne) ∙ not-to))
 end_stays (sync d x records' made' pending block none-held view run make else hold stored) b ne not-to o e = e
 end_stays (forward d r u k w word) b ne not-to o e = e
-end_stays (give_out q w gaveOut' given' member word one_more given-else more else) b ne not-to o e = e
+end_stays (give_out q w gave_out' given' member word one_more given-else more else) b ne not-to o e = e
 end_stays (install words' given' up pending start was is held given fewer none-given) b ne not-to o e = λ t m. absurd (false≢true t)
 
 -- what an action sends b is right, and moves the end to where the sender then stands
@@ -96,7 +96,7 @@ place_stays (announce d unsaid covers to) a not-from = refl
 place_stays (pass_out d w said word within to) a not-from = refl
 place_stays (sync d x records' made' pending block none-held view run make else hold stored) a not-from = refl
 place_stays (forward d r u k w word) a not-from = refl
-place_stays (give_out q w gaveOut' given' member word one_more given-else more else) a not-from = refl
+place_stays (give_out q w gave_out' given' member word one_more given-else more else) a not-from = refl
 place_stays (install words' given' up pending start was is held given fewer none-given) a not-from = refl
 
 -- ---- the channels of the one who acts

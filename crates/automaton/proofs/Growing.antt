@@ -30,7 +30,7 @@ accepted_grows (announce d unsaid covers to) v = λ i y e. e
 accepted_grows (pass_out d w said word within to) v = λ i y e. e
 accepted_grows (sync d x records' made' pending block none-held view run make else hold stored) v = λ i y e. e
 accepted_grows (forward d r u k w word) v = λ i y e. e
-accepted_grows (give_out q w gaveOut' given' member word one_more given-else more else) v = λ i y e. e
+accepted_grows (give_out q w gave_out' given' member word one_more given-else more else) v = λ i y e. e
 accepted_grows (install words' given' up pending start was is held given fewer none-given) v = λ i y e. e
 
 -- a record made under the latest number is held, and a sync is made only where none is
@@ -54,5 +54,5 @@ made_stays {s = s} (sync d x records' made' pending block none-held view run mak
     go (yes q) = absurd (none-ne-some y (sym none-held ∙ h.recording.own y (subst (λ (z : ℕ). s.made z ≡ some y) q e)))
     go (no f) = else j f ∙ e
 made_stays (forward d r u k w word) h j y e = e
-made_stays (give_out q w gaveOut' given' member word one_more given-else more else) h j y e = e
+made_stays (give_out q w gave_out' given' member word one_more given-else more else) h j y e = e
 made_stays (install words' given' up pending start was is held given fewer none-given) h j y e = e

@@ -132,14 +132,14 @@ pub data Action (D : Domain) (n p : ℕ) (s : State D) : State D → Label D →
       → s.words v r i ≡ some w
       → Action D n p s s (sends d (fwd_msg r v i w))
   -- deliver_p(q, m): "m = msgs[q][current_view][last_dlvrd[q]+1]", of a member
-  give_out : (q : ℕ) (w : D.Word) (gaveOut' : OutLog D) (given' : ℕ → ℕ)
+  give_out : (q : ℕ) (w : D.Word) (gave_out' : OutLog D) (given' : ℕ → ℕ)
       → D.has s.current q ≡ true
       → s.words s.current q (s.given q) ≡ some w
       → given' q ≡ suc (s.given q)
       → ((r : ℕ) → (r ≡ q → ⊥) → given' r ≡ s.given r)
-      → gaveOut' s.current q ≡ s.gave_out s.current q ++ (w ∷ [])
-      → ((v : D.View) (r : ℕ) → (v ≡ s.current → r ≡ q → ⊥) → gaveOut' v r ≡ s.gave_out v r)
-      → Action D n p s (with_given gaveOut' given' s) quiet
+      → gave_out' s.current q ≡ s.gave_out s.current q ++ (w ∷ [])
+      → ((v : D.View) (r : ℕ) → (v ≡ s.current → r ≡ q → ⊥) → gave_out' v r ≡ s.gave_out v r)
+      → Action D n p s (with_given gave_out' given' s) quiet
   -- view_p(v, T): v is newer and p in both views, "v.startId(p) = start_change.id", each named record of a member of both views is held,
   -- and "last_dlvrd[q] = max over r ∈ T of sync_msg[r][v.startId(r)].cut(q)" for each q of the current view
   install : (words' : Words D) (given' : ℕ → ℕ)

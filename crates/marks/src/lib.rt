@@ -67,6 +67,7 @@ pub fn none() -> Held
 }
 
 // Word i is held; false where there is no word i.
+#[tactic(auto, using(crate::proofs::Packing::held_zero, crate::proofs::Packing::held_low, crate::proofs::Packing::held_high, crate::proofs::Packing::held_out))]
 pub fn is_held(h: Held, i: u8) -> bool
     ensures { result ≡ held_at h i }
 {
@@ -82,6 +83,7 @@ pub fn is_held(h: Held, i: u8) -> bool
 }
 
 // With word i held besides; as it was where there is no word i.
+#[tactic(auto, using(crate::proofs::Packing::marked_zero, crate::proofs::Packing::marked_low, crate::proofs::Packing::marked_high, crate::proofs::Packing::marked_out))]
 pub fn mark(mut h: Held, i: u8) -> Held
     ensures { result ≡ marked h i }
 {
@@ -166,6 +168,7 @@ pub fn no_gap_in(m: Marks, r: u8) -> bool
 }
 
 // With word i of sender r held besides; as it was for r above 7, or where there is no word i.
+#[tactic(auto, using(crate::proofs::Slot::marks_past, crate::proofs::Slot::array_length), unfolding(crate::specs::Marks::marked_in, crate::specs::Marks::row_of))]
 pub fn mark_in(mut m: Marks, r: u8, i: u8) -> Marks
     ensures { result ≡ marked_in m r i }
 {

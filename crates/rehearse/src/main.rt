@@ -2,7 +2,7 @@
 // Reading a line is in lines, values and commands; playing it in play, steps and channels; writing the answer in say, look and text.
 #![tactic(auto)]
 
-ghost use Rattle.std.specs.Prelude.{◌≤◌, IfOk, length};
+ghost use Rattle.std.specs.Prelude.{◌≡◌, ◌≤◌, IfOk, length};
 
 mod channels;
 mod commands;
@@ -25,9 +25,11 @@ fn too_long(page: &mut Page) {
     text::flush(page, &mut at);
 }
 
-// Reads until the room is full or the input ends, and returns how many bytes it put at the room's start.
+// Reads until the room is full or the input ends, and returns how many bytes it put at the room's start. The only error is that of a read: what had come before
+// it stands in the room, which has its length then too.
 fn read_full(mut input: Stdin, room: &mut [u8]) -> io::Result<usize>
-    ensures { IfOk result (λ n. n ≤ length room.new) }
+    ensures count { IfOk result (λ n. n ≤ length room.new) }
+    ensures room_kept { length room.new ≡ length room.old }
 {
     let mut done = 0;
     while done < room.len() {

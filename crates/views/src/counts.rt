@@ -41,6 +41,7 @@ impl Cut {
     }
 
     // The count of sender n: 0 above 7.
+    #[tactic(auto, using(std::proofs::lemmas::List::get_or_past), unfolding(crate::specs::Cuts::count_of))]
     pub fn count(self, n: u8) -> u8
         ensures { result ≡ count_of self n }
     {

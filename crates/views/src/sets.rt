@@ -11,6 +11,7 @@ fn bit(set: u8, n: u8) -> bool
 }
 
 // Whether n is a member: above 7 there is none.
+#[tactic(auto, using(crate::proofs::Members::has_above))]
 pub fn contains(set: u8, n: u8) -> bool
     ensures { result ≡ has set n }
 {

@@ -78,6 +78,7 @@ impl View {
     }
 
     // The start number of member n: 0 above 7.
+    #[tactic(auto, using(std::proofs::lemmas::List::get_or_past), unfolding(crate::specs::Views::start_of))]
     pub fn start(self, n: u8) -> u32
         ensures { result ≡ start_of self n }
     {
@@ -88,6 +89,7 @@ impl View {
     }
 
     // Whether the view is well formed.
+    #[tactic(auto, using(below::proofs::Tests::picks), unfolding(crate::specs::Views::view_ok))]
     pub fn well_formed(self) -> bool
         ensures { result ≡ view_ok self }
     {
