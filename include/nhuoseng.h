@@ -341,9 +341,9 @@ enum nh_number {
 };
 
 /*
- * The calls. p is the end-point's own number. Every call on an end-point gives 1
- * where it is unsound, and where a word area is lent and has not exactly NH_AREA
- * words; what else gives 1 is said with the call.
+ * The calls. p is the end-point's own number. Every step and the batch give 1
+ * where the end-point is unsound, and where a word area is lent and has not
+ * exactly NH_AREA words; what else gives 1 is said with the call.
  *
  * The word area is the driver's, one for each end-point, with any content at
  * first. Only nh_send and nh_receive write in it, one word at most.
@@ -355,13 +355,13 @@ enum nh_number {
  */
 nh_answer nh_fresh(uint8_t p);
 
-/* 1 where the end-point is sound, 0 where it is not: every other call then gives 1. */
+/* 1 where the end-point is sound, 0 where it is not: every step then gives 1. */
 uint8_t nh_sound(nh_endpoint e);
 
 /*
  * 1 where a view is ready, 0 where none is: a change is pending, the latest
  * membership view's id is above the current one's and its start number for p is
- * the latest. nh_forward and nh_install give 4 where none is.
+ * the latest. On a sound end-point nh_forward and nh_install give 4 where none is.
  */
 uint8_t nh_ready(nh_endpoint e);
 
