@@ -161,6 +161,20 @@ static void check_left(const struct desk *d, const nh_endpoint *library, unsigne
     seen_if(d->words->kept[AREA - 1] != last, CASE_LAST_PLACE);
 }
 
+/* What may be asked of an end-point between its steps. The model's ready is for a sound one. */
+static void check_asked(const struct desk *d)
+{
+    const bool sound = model_sound(&d->m);
+
+    check_that(nh_sound(d->e) == (sound ? 1 : 0), "the library and the model differ on sound");
+    seen_if(!sound, CASE_ASKED_UNSOUND);
+    if (!sound)
+        return;
+    check_that(nh_ready(d->e) == (ready(&d->m) ? 1 : 0), "the library and the model differ on ready");
+    seen_if(ready(&d->m), CASE_ASKED_READY);
+    seen_if(!ready(&d->m) && d->m.pending, CASE_ASKED_PENDING);
+}
+
 static void settle(enum step step, struct desk *d, const nh_answer *a, const struct given *x)
 {
     const bool stores = step == STEP_SEND || step == STEP_RECEIVE_WORD || step == STEP_RECEIVE_FORWARD;
@@ -173,6 +187,7 @@ static void settle(enum step step, struct desk *d, const nh_answer *a, const str
     check_that(a->set == x->set, "the sets given differ");
     d->e = a->ep;
     seen_step(step, x->number);
+    check_asked(d);
 }
 
 /* What the model sends, as the library should. */

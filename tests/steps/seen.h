@@ -89,7 +89,10 @@ enum step {
     X(BATCH_NONE, "batch with no room, and words there") \
     X(BATCH_128, "batch of 128 words") \
     X(FRESH_ABOVE_8, "fresh above 8") \
-    X(STALE_SOUND, "noise in what no step reads, and still sound")
+    X(STALE_SOUND, "noise in what no step reads, and still sound") \
+    X(ASKED_UNSOUND, "sound, 0") \
+    X(ASKED_READY, "ready, 1") \
+    X(ASKED_PENDING, "ready, 0: pending, no view of the latest start number")
 
 #define CASE_NAME(name, text) CASE_ ## name,
 enum seen_case { CASES(CASE_NAME) CASE_COUNT };
