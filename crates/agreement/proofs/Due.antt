@@ -4,12 +4,15 @@ use Prim.Native.Nat.{ℕ, ◌+◌, ◌<◌, max, min}
 use native.Mathlib.Omega.{arith}
 use mathlib.Core.Bool.{Bool, true, false, not, cond, ◌&&◌, and-false}
 use mathlib.Core.List.{List}
+use mathlib.Core.Logic.{⊎_elim}
 use mathlib.Core.Path.{◌≡◌, refl, sym, ap, ◌∙◌}
 use lib.Dec.{eqb, ltb, leb}
 use Rattle.below.specs.Below.{all_below, none_below, largest_below, first_below}
 use Rattle.below.proofs.All.{all_of}
 use Rattle.below.proofs.First.{first_same, first_is}
+use Rattle.below.proofs.Tests.{clash, side}
 use Rattle.views.specs.Sets.{has}
+use Rattle.views.proofs.Members.{has_above}
 use Rattle.agreement.specs.declared.Row.{Row}
 use Rattle.agreement.specs.Due.{due, forward_mark, due_above, lowest_due, owes}
 use Rattle.agreement.specs.Spans.{apt, lower, floor, spanned}
@@ -76,6 +79,10 @@ module _ (in_t : ℕ → Bool) (members p q r : ℕ) where
   pub apt_no_sender : has members r ≡ false → apt in_t members p q r ≡ false
   unfolding apt
   apt_no_sender t = rw t
+
+-- a member is below 8
+pub member_low : (s n : ℕ) → s < 256 → has s n ≡ true → n < 8
+member_low s n h t = ⊎_elim (λ l. l) (λ l. clash t (has_above s n h l)) (side n 8)
 
 pub owes_none : (in_t : ℕ → Bool) (cut : ℕ → ℕ → ℕ) (members p : ℕ) (rows : List Row) → in_t p ≡ false → false ≡ owes in_t cut members p rows
 unfolding owes

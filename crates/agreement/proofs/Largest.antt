@@ -5,12 +5,14 @@ use native.Mathlib.Nat.{le_antisymm}
 use mathlib.Core.Bool.{Bool, true, false, cond}
 use mathlib.Core.Path.{◌≡◌, refl, sym, ap, ◌∙◌}
 use mathlib.Core.Logic.{⊎_elim}
+use Rattle.std.proofs.Math.Nat.{max-zero}
 use lib.ListN.{get_or, get_or-replicate, get_or-eq_default}
 use Rattle.below.specs.Below.{largest_below, join_below, list_below}
 use Rattle.below.proofs.Tests.{side}
 use Rattle.below.proofs.Count.{largest_more}
 use Rattle.below.proofs.Lists.{list_at}
 use Rattle.views.specs.declared.Cut.{Cut}
+use Rattle.views.specs.Sets.{has}
 use Rattle.views.specs.Cuts.{no_cut, count_of}
 use Rattle.agreement.specs.declared.Agreement.{Agreement}
 use Rattle.agreement.specs.Agreement.{agrees, cut_in}
@@ -47,10 +49,27 @@ module _ (f : ℕ → Cut) where
       e ∙ rw (p, q) (ap (λ l. record { counts = l }) (list_same (λ r. max (count_of (tops f i) r) (count_of (f i) r)) (λ r. largest_below (λ m. count_of (f m) r) (i + 1)) 8
       (λ r l. ap (λ k. max k (count_of (f i) r)) (tops_at i r l) ∙ sym (largest_more (λ m. count_of (f m) r) i))))
 
+  -- one without a count adds nothing
+  pub higher_none : (i : ℕ) (c : Cut) → c ≡ tops f i → higher c no_cut ≡ c
+  unfolding higher tops
+  higher_none i c p =
+      rw p (ap (λ l. record { counts = l }) (list_same (λ r. max (count_of (tops f i) r) (count_of no_cut r)) (λ r. largest_below (λ m. count_of (f m) r) i) 8
+      (λ r l. rw (count_none r) (max-zero (count_of (tops f i) r) ∙ tops_at i r l))))
+
   pub tops_end : (n i : ℕ) (c : Cut) → i ≤ n → n ≤ i → c ≡ tops f i → c ≡ tops f n
   tops_end n i c a b e = rw (le_antisymm a b) at e
 
 pub ruleset rises = (tops_start, tops_more, tops_end)
+
+-- one more member, by whether it is in T
+module _ (a : Agreement) (m : ℕ) (c : Cut) (p : c ≡ tops (cut_or_none a) m) where
+  pub lowers_with : (x d : Cut) → has a.set m ≡ true → x ≡ get_or a.cuts m no_cut → d ≡ higher c x → d ≡ tops (cut_or_none a) (m + 1)
+  unfolding cut_or_none agrees
+  lowers_with x d t e q = tops_more (cut_or_none a) m c x d p (rw t e) q
+
+  pub lowers_without : has a.set m ≡ false → c ≡ tops (cut_or_none a) (m + 1)
+  unfolding cut_or_none agrees
+  lowers_without t = tops_more (cut_or_none a) m c no_cut c p (rw t refl) (sym (higher_none (cut_or_none a) m c p))
 
 -- what the members of T below p have for r
 pub lower_is : (a : Agreement) (p r : ℕ) → r < 8 → count_of (tops (cut_or_none a) p) r ≡ lower (agrees a) (cut_in a) p r

@@ -11,7 +11,7 @@ mod owing;
 mod rising;
 
 pub use agreeing::agree;
-pub use marking::{no_rows, raised};
+pub use marking::{no_rows, raise};
 
 // The forward marks of one destination, by sender.
 #[repr(C)]
@@ -21,19 +21,11 @@ pub struct Row {
 }
 
 // T and its records' cuts, found in one pass: a member outside T has no cut here. counts is the agreed count of each sender;
-// unnamed is whether a named record of a member of both views is not held.
+// unnamed is whether a named record of a member of both views is not held. Its fields are the definition's (`agreement`).
 #[derive(Clone, Copy)]
 pub struct Agreement {
     pub cuts: [Cut; 8],
     pub counts: Cut,
     pub set: u8,
     pub unnamed: bool,
-}
-
-// What the pass finds of one member: its cut where it is in T, and none elsewhere; whether it is in T; whether its named record is held where it is a member of both views.
-#[derive(Clone, Copy)]
-struct Part {
-    cut: Cut,
-    agrees: bool,
-    named: bool,
 }

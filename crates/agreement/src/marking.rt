@@ -1,6 +1,6 @@
 // The forward marks: eight rows, one a destination, of eight marks, one a sender.
 ghost use Rattle.std.specs.Prelude.{◌≡◌, get_or, set, replicate};
-ghost use Rattle.agreement.specs.Due.{no_marks, forward_mark};
+ghost use Rattle.agreement.specs.Due.{no_marks};
 
 use crate::Row;
 
@@ -8,46 +8,27 @@ use crate::Row;
 pub fn no_rows() -> [Row; 8]
     ensures { result ≡ replicate 8 no_marks }
 {
-    let marks = [0u8; 8];
-    let row = Row { marks };
-    [row; 8]
+    [Row { marks: [0; 8] }; 8]
 }
 
-fn mark_in(row: Row, r: u8) -> u8
-    ensures { result ≡ get_or row.marks r 0 }
-{
-    if 8 <= r {
-        return 0;
+impl Row {
+    // Sets the mark for sender r to i; nothing changes for r above 7.
+    #[tactic(auto, using(crate::proofs::Rows::mark_past))]
+    fn raise(&mut self, r: u8, i: u8)
+        ensures { self.new ≡ record { marks = set self.old.marks r i } }
+    {
+        if r < 8 {
+            self.marks[r as usize] = i;
+        }
     }
-    row.marks[r as usize]
 }
 
-fn with_mark(mut row: Row, r: u8, i: u8) -> Row
-    ensures { result ≡ record { marks = set row.marks r i } }
-{
-    if r < 8 {
-        row.marks[r as usize] = i;
-    }
-    row
-}
-
-// The mark of destination q for sender r: 0 above 7.
-pub fn mark_of(rows: [Row; 8], q: u8, r: u8) -> u8
-    ensures { result ≡ forward_mark rows q r }
-{
-    if 8 <= q {
-        return 0;
-    }
-    mark_in(rows[q as usize], r)
-}
-
-// With that mark i; as it was for q or r above 7.
-pub fn raised(mut rows: [Row; 8], q: u8, r: u8, i: u8) -> [Row; 8]
-    ensures { result ≡ set rows q (record { marks = set (get_or rows q no_marks).marks r i }) }
+// Sets destination q's mark for sender r to i; nothing changes for q or r above 7.
+#[tactic(auto, using(crate::proofs::Rows::row_past, crate::proofs::Rows::row_set))]
+pub fn raise(rows: &mut [Row; 8], q: u8, r: u8, i: u8)
+    ensures { rows.new ≡ set rows.old q (record { marks = set (get_or rows.old q no_marks).marks r i }) }
 {
     if q < 8 {
-        let row = with_mark(rows[q as usize], r, i);
-        rows[q as usize] = row;
+        rows[q as usize].raise(r, i);
     }
-    rows
 }

@@ -1,6 +1,6 @@
--- What holds of the numbers below n, for any n: all, none, how many, the largest, the run, the first; a thing done n times; a list filled, made or joined.
+-- What holds of the numbers below n, for any n: all, none, how many, the largest, the run, the first, what a search found; a thing done n times; a list filled, made or joined.
 -- Each takes what it asks of a number as a function. The laws are in proofs/. Assumes nothing.
-use Rattle.std.specs.Prelude.{ℕ, zero, suc, ◌+◌, max, Bool, true, ◌&&◌, not, cond, List, [], ◌∷◌, ◌++◌, set, get_or}
+use Rattle.std.specs.Prelude.{ℕ, zero, suc, ◌+◌, max, Bool, true, ◌&&◌, not, cond, ltb, List, [], ◌∷◌, ◌++◌, set, get_or, Option, Some, None}
 
 -- f holds at each number below n
 unfoldable pub all_below : (ℕ → Bool) → ℕ → Bool
@@ -33,6 +33,10 @@ run_below f n = run_from f n 0
 -- the least number below n at which f holds, n where it holds at none
 unfoldable pub first_below : (ℕ → Bool) → ℕ → ℕ
 first_below f n = run_below (λ k. not (f k)) n
+
+-- what a search below n found, which came to k: nothing where it came to the end
+abbrev pub found : ℕ → ℕ → Option ℕ
+found n k = cond (ltb k n) (Some k) None
 
 -- f done n times, from a
 unfoldable pub times : {A : Type 0} → (A → A) → A → ℕ → A

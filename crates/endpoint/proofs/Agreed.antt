@@ -1,10 +1,8 @@
 -- What one pass over the members found, as the definitions of an end-point say it: the agreed counts, what is owed, the lowest word that is due.
 -- Assumes nothing.
 use Prim.Native.Nat.{ℕ, ◌<◌}
-use native.Mathlib.Omega.{arith}
-use mathlib.Core.Bool.{Bool, true, false, not, cond}
-use mathlib.Core.List.{[], ◌∷◌}
-use mathlib.Core.Path.{◌≡◌, sym, ap, ◌∙◌}
+use mathlib.Core.Bool.{Bool, true, not, cond}
+use mathlib.Core.Path.{◌≡◌, ap, ◌∙◌}
 use lib.Dec.{leb}
 use lib.ListN.{get_or}
 use Rattle.below.proofs.All.{all_same}
@@ -14,7 +12,7 @@ use Rattle.marks.specs.declared.Held.{Held}
 use Rattle.marks.specs.declared.Marks.{Marks}
 use Rattle.marks.specs.Held.{held_at}
 use Rattle.marks.specs.Marks.{held_in, row_of, no_marks}
-use Rattle.slots.specs.Slots.{slot_in, held_word}
+use Rattle.slots.specs.Slots.{slot_of, marks_at, held_word}
 use Rattle.agreement.specs.declared.Agreement.{Agreement}
 use Rattle.agreement.specs.Agreement.{agreement, agrees, cut_in}
 use Rattle.agreement.specs.Named as Named
@@ -22,43 +20,42 @@ use Rattle.agreement.specs.Due as Due
 use Rattle.agreement.proofs.Passed.{counts_is, owes_same, lowest_same}
 use Rattle.parts.specs.Counts.{at_least}
 use Rattle.endpoint.specs.declared.EndPoint.{EndPoint}
-use Rattle.endpoint.specs.Ready.{ready, in_t, T, named_cut, agreed, unnamed}
+use Rattle.endpoint.specs.Ready.{in_t, T, named_cut, agreed, unnamed}
 use Rattle.endpoint.specs.Due.{lowest_due, owes}
-use Rattle.endpoint.specs.Sound.{sound}
-use Rattle.endpoint.specs.Numbers.{check, verdict}
-use Rattle.endpoint.specs.Install.{all_members, fewer, more, install_checks}
-use Rattle.endpoint.specs.Pass.{InstallPlanned}
-use Rattle.endpoint.proofs.Planning.{marks_is, first_applies, first_not}
+use Rattle.endpoint.specs.Install.{all_members, fewer, more}
+use Rattle.std.specs.Prelude.{Option}
+use Rattle.below.specs.Below.{found}
 
-module _ (e : EndPoint) (a : Agreement) (found : a ≡ agreement e.current e.membership e.records) where
+module _ (e : EndPoint) (a : Agreement) (given : a ≡ agreement e.current e.membership e.records) where
   pub count_is : (q : ℕ) → q < 8 → count_of a.counts q ≡ agreed e q
   unfolding agreed
-  count_is q l = ap (λ x. count_of x.counts q) found ∙ counts_is e.current e.membership e.records q l
+  count_is q l = ap (λ x. count_of x.counts q) given ∙ counts_is e.current e.membership e.records q l
 
   pub unnamed_is : a.unnamed ≡ unnamed e
   unfolding unnamed agreement
-  unnamed_is = ap (λ x. x.unnamed) found
+  unnamed_is = ap (λ x. x.unnamed) given
 
   pub T_is : a.set ≡ T e
   unfolding T agreement
-  T_is = ap (λ x. x.set) found
+  T_is = ap (λ x. x.set) given
 
   pub owes_is : (b : Bool) → e.me < 8 → b ≡ Due.owes (agrees a) (cut_in a) e.current.set e.me e.forwarded → b ≡ owes e
   unfolding owes in_t named_cut
   owes_is b l h =
-      h ∙ ap (λ x. Due.owes (agrees x) (cut_in x) e.current.set e.me e.forwarded) found
+      h ∙ ap (λ x. Due.owes (agrees x) (cut_in x) e.current.set e.me e.forwarded) given
       ∙ owes_same e.current e.membership e.records e.current.set e.me l e.forwarded
 
-  -- m is the current view's marks, h the row of r in it
-  pub lowest_is : (s : ℕ) (m : Marks) (h : Held) (q r k : ℕ) → e.me < 8 → q < 8 → r < 8 → s ≡ slot_in e.slots.tags e.current
+  -- m is the current view's marks, h the row of r in it, o what the search of one pass gave
+  pub lowest_is : (s : ℕ) (m : Marks) (h : Held) (q r : ℕ) (o : Option ℕ) → e.me < 8 → q < 8 → r < 8 → s ≡ slot_of e.slots e.current
       → m ≡ get_or e.slots.marks s no_marks → h ≡ row_of m r
-      → k ≡ Due.lowest_due (agrees a) (cut_in a) e.current.set e.me e.forwarded (held_at h) q r → k ≡ lowest_due e q r
-  unfolding lowest_due in_t named_cut held_word held_in
-  lowest_is s m h q r k l lq lr p d g j =
-      j ∙ ap (λ x. Due.lowest_due (agrees x) (cut_in x) e.current.set e.me e.forwarded (held_at h) q r) found
+      → o ≡ found 128 (Due.lowest_due (agrees a) (cut_in a) e.current.set e.me e.forwarded (held_at h) q r) → o ≡ found 128 (lowest_due e q r)
+  unfolding lowest_due in_t named_cut held_word held_in marks_at
+  lowest_is s m h q r o l lq lr p d g j =
+      j ∙ ap (found 128)
+      (ap (λ x. Due.lowest_due (agrees x) (cut_in x) e.current.set e.me e.forwarded (held_at h) q r) given
       ∙ lowest_same e.current e.membership e.records e.current.set e.me l e.forwarded (held_at h) q r lq lr
       ∙ ap (λ y. Due.lowest_due (Named.in_t e.current e.membership e.records) (Named.named_cut e.membership e.records) e.current.set e.me e.forwarded (held_at y) q r)
-      (g ∙ ap (λ x. row_of x r) (marks_is e.slots e.current s p m d))
+      (g ∙ ap (λ x. row_of x r) (d ∙ ap (λ k. get_or e.slots.marks k no_marks) p)))
 
   at : (r : ℕ) → r < 8 → get_or a.counts.counts r 0 ≡ agreed e r
   unfolding count_of
@@ -78,18 +75,3 @@ module _ (e : EndPoint) (a : Agreement) (found : a ≡ agreement e.current e.mem
       ap not (h ∙ all_same (λ r. cond (has e.current.set r) (leb (get_or e.given r 0) (get_or a.counts.counts r 0)) true)
       (λ r. cond (has e.current.set r) (leb (get_or e.given r 0) (agreed e r)) true) 8
       (λ r l. ap (λ k. cond (has e.current.set r) (leb (get_or e.given r 0) k) true) (at r l)))
-
--- ---- install's plan, where the end-point is not sound and where it is
-
-pub install_no : (e : EndPoint) → sound e ≡ false → InstallPlanned e (record { number = 1; set = 0 })
-unfolding install_checks
-install_no e t =
-    let q = first_applies 1 (not (sound e)) (check 4 (not (ready e)) ∷ check 9 (unnamed e) ∷ check 12 (owes e) ∷ check 13 (fewer e) ∷ check 15 (more e) ∷ []) (ap not t) in
-    record { number = sym q; set = λ z. absurd (let k : ◌≡◌ {A = ℕ} 1 0 = sym q ∙ z in omega arith) }
-
-pub install_yes : (e : EndPoint) (n s : ℕ) → sound e ≡ true
-    → n ≡ verdict (check 4 (not (ready e)) ∷ check 9 (unnamed e) ∷ check 12 (owes e) ∷ check 13 (fewer e) ∷ check 15 (more e) ∷ []) → s ≡ T e
-    → InstallPlanned e (record { number = n; set = s })
-unfolding install_checks
-install_yes e n s t p q =
-    record { number = p ∙ sym (first_not 1 (not (sound e)) (check 4 (not (ready e)) ∷ check 9 (unnamed e) ∷ check 12 (owes e) ∷ check 13 (fewer e) ∷ check 15 (more e) ∷ []) (ap not t)); set = λ z. q }

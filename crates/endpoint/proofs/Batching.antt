@@ -1,16 +1,16 @@
 -- A batch in one pass is so many single give-outs. In order: where the give-outs end; the end-point after some of them is sound; the words;
--- the batch by induction on its room; what the method has to show of its answer; a loop that copies. Assumes nothing.
-use Prim.Native.Nat.{ℕ, zero, suc, ◌+◌, ◌-◌, ◌*◌, ◌≤◌, ◌<◌, min}
-use native.Mathlib.Nat.{eq-or-lt_of_le, le_antisymm}
-use native.Mathlib.Numerals.{add-one}
+-- the batch by induction on its room; what the method has to show of its answer; the words that it copies. Assumes nothing.
+use Prim.Native.Nat.{ℕ, zero, suc, ◌+◌, ◌-◌, ◌≤◌, ◌<◌, min}
+use native.Mathlib.Nat.{eq-or-lt_of_le}
 use native.Mathlib.Omega.{arith}
 use mathlib.Core.Bool.{Bool, true, false, not, cond, ◌&&◌, ◌||◌}
-use mathlib.Core.List.{List, [], ◌∷◌, ◌++◌, append_assoc}
+use mathlib.Core.List.{List, [], ◌∷◌, ◌++◌}
 use mathlib.Core.Logic.{⊎_elim}
 use mathlib.Core.Path.{◌≡◌, refl, sym, ap, ◌∙◌}
 use lib.Dec.{eqb, ltb, leb}
-use lib.ListN.{length, get_or, set, drop, length-set}
-use lib.Seq.{get_or-set_same, get_or-set_other, set-get_or, set-set, set_at, drop-cons}
+use lib.ListN.{length, get_or, set, take, drop, length-set, length-drop}
+use lib.Seq.{get_or-set_same, get_or-set_other, set-get_or, set-set, take-suc}
+use Rattle.std.proofs.lemmas.List.{get_or-drop}
 use borrow.Author.Tests.{eqb-true, leb-true, le-leb, ltb-true, ltb-false, lt-ltb, le-ltb, lt-leb, eq-eqb, ne_eqb}
 use Rattle.below.specs.Below.{all_below, join_below, list_below}
 use Rattle.below.proofs.Tests.{clash, is_not, and_both, and_left, and_right, side}
@@ -26,7 +26,6 @@ use Rattle.slots.proofs.Finding.{at_or_not, run_low, slot_of_lem}
 use Rattle.agreement.specs.Due.{forward_mark}
 use Rattle.endpoint.specs.declared.EndPoint.{EndPoint}
 use Rattle.endpoint.specs.declared.Answer.{Answer}
-use Rattle.endpoint.specs.declared.Plan.{Plan}
 use Rattle.endpoint.specs.State.{with_given, is_pending}
 use Rattle.endpoint.specs.Spent.{spent}
 use Rattle.endpoint.specs.Ready.{ready, agreed}
@@ -35,8 +34,8 @@ use Rattle.endpoint.specs.Application.{unfit}
 use Rattle.endpoint.specs.Numbers.{check, verdict, settle, refused_with}
 use Rattle.endpoint.specs.Give.{Given, next_given, limit, nothing_next, beyond_cut, give_checks, gives_next, give_one, give_many, batch_number, batch, batch_area, batch_answer}
 use Rattle.endpoint.proofs.Parts.{neither, parts_of, sound_of}
-use Rattle.endpoint.specs.Pass.{Planned, batch_checks, capped, last_given, words_after}
-use Rattle.endpoint.proofs.Planning.{none_applies, planned_no, given_low}
+use Rattle.endpoint.specs.Pass.{batch_checks, capped, last_given, words_after}
+use Rattle.endpoint.proofs.Planning.{none_applies, given_low}
 
 -- ---- where the give-outs end
 
@@ -319,129 +318,60 @@ fit_batch e area q z =
       slot_low = (slot_of_lem e.slots e.current (and_right live h (and_right (slots_differ e.slots) (live && h) k))).0;
     }
 
-module _ (e : EndPoint) (area : List ℕ) (q : ℕ) (p : Plan) (w : Planned (batch_checks e area q) (slot_of e.slots e.current) (last_given e q) p) where
-  batch_none : (p.number ≡ 0 → ⊥) → (room : ℕ) → batch e area q room ≡ record { ep = e; words = [] }
+-- refused by the number n
+module _ (e : EndPoint) (area : List ℕ) (q n : ℕ) (k : verdict (batch_checks e area q) ≡ n) (z : n ≡ 0 → ⊥) where
+  batch_none : (room : ℕ) → batch e area q room ≡ record { ep = e; words = [] }
   unfolding batch
-  batch_none z room =
-      let t : eqb (batch_number e area q) 0 ≡ false = ne_eqb (batch_number e area q) 0 (λ k. z (w.number ∙ sym (number_is e area q) ∙ k)) in
+  batch_none room =
+      let t : eqb (batch_number e area q) 0 ≡ false = ne_eqb (batch_number e area q) 0 (λ m. z (sym k ∙ sym (number_is e area q) ∙ m)) in
       rw t
 
-  pub batch_refused : (p.number ≡ 0 → ⊥) → (room : ℕ) → record { ep = e; count = 0; number = p.number } ≡ batch_answer e area q room
-  batch_refused z room = rw (batch_none z room, number_is e area q, ← w.number)
+  pub batch_refused : (room : ℕ) → record { ep = e; count = 0; number = n } ≡ batch_answer e area q room
+  batch_refused room = rw (batch_none room, number_is e area q, k)
 
-  pub batch_kept : (p.number ≡ 0 → ⊥) → (out : List ℕ) → out ≡ batch_area e area q out
+  pub batch_kept : (out : List ℕ) → out ≡ batch_area e area q out
   unfolding batch_area
-  batch_kept z out = rw (batch_none z (length out))
+  batch_kept out = rw (batch_none (length out))
 
-  module _ (z : p.number ≡ 0) where
-    no_check : verdict (batch_checks e area q) ≡ 0
-    no_check = sym w.number ∙ z
+-- not refused: k words of q are given out, as many as there is room for
+module _ (e : EndPoint) (area : List ℕ) (q : ℕ) (z : verdict (batch_checks e area q) ≡ 0) (room k : ℕ) (h : k ≡ min room (last_given e q - get_or e.given q 0)) where
+  pub words_fit_lem : get_or e.given q 0 + k ≤ 128
+  words_fit_lem =
+      let f = fit_batch e area q z in
+      omega (arith, last_low e q, run_low e.slots e.current q, given_low e f.sound_now q f.low)
 
-    pub plan_fit : Fit e area q
-    plan_fit = fit_batch e area q no_check
+  module _ (y : length e.given ≡ 8) where
+    batch_some : batch e area q room ≡ after e area q k
+    unfolding batch
+    batch_some =
+        let t : eqb (batch_number e area q) 0 ≡ true = eq-eqb (batch_number e area q) 0 (number_is e area q ∙ z) in
+        let f = fit_batch e area q z in
+        rw (t, h) (many area q f.whole f.low room e f.sound_now y f.here)
 
-    pub slot_fits_lem : p.slot < 4
-    slot_fits_lem = rw (w.slot no_check) plan_fit.slot_low
+    pub batch_done : record { ep = with_given (set e.given q (get_or e.given q 0 + k)) e; count = k; number = 0 } ≡ batch_answer e area q room
+    batch_done =
+        rw (batch_some, number_is e area q, z, words_length area (slot_of e.slots e.current) q (get_or e.given q 0) k)
 
-    -- k words of q are given out where there is this much room
-    module _ (room k : ℕ) (h : k ≡ min room (p.index - get_or e.given q 0)) where
-      pub words_fit_lem : get_or e.given q 0 + k ≤ 128
-      words_fit_lem =
-          omega (
-            arith,
-            w.index no_check,
-            last_low e q,
-            run_low e.slots e.current q,
-            given_low e plan_fit.sound_now q plan_fit.low,
-          )
+pub batch_copied : (e : EndPoint) (area : List ℕ) (q : ℕ) → verdict (batch_checks e area q) ≡ 0 → (out : List ℕ) (k : ℕ)
+    → k ≡ min (length out) (last_given e q - get_or e.given q 0) → length e.given ≡ 8
+    → words_after area (slot_of e.slots e.current) q (get_or e.given q 0) k ++ drop k out ≡ batch_area e area q out
+unfolding batch_area
+batch_copied e area q z out k h y =
+    rw (batch_some e area q z (length out) k h y, words_length area (slot_of e.slots e.current) q (get_or e.given q 0) k)
 
-      pub room_fits : k ≤ room
-      room_fits = omega arith
+-- ---- the words of the area that are copied
 
-      module _ (y : length e.given ≡ 8) where
-        batch_some : batch e area q room ≡ after e area q k
-        unfolding batch
-        batch_some =
-            let t : eqb (batch_number e area q) 0 ≡ true = eq-eqb (batch_number e area q) 0 (number_is e area q ∙ no_check) in
-            let f = plan_fit in
-            rw (t, h, w.index no_check) (many area q f.whole f.low room e f.sound_now y f.here)
+-- the place n after that of the next word
+place_after : (s q i n : ℕ) → place s q (i + 1) + n ≡ place s q (i + n + 1)
+unfolding place
+place_after s q i n = omega arith
 
-        pub batch_done : record { ep = with_given (set e.given q (get_or e.given q 0 + k)) e; count = k; number = 0 } ≡ batch_answer e area q room
-        batch_done =
-            rw (batch_some, number_is e area q, no_check, words_length area (slot_of e.slots e.current) q (get_or e.given q 0) k)
-
-    pub batch_copied : (out : List ℕ) (k : ℕ) → k ≡ min (length out) (p.index - get_or e.given q 0) → length e.given ≡ 8
-        → words_after area p.slot q (get_or e.given q 0) k ++ drop k out ≡ batch_area e area q out
-    unfolding batch_area
-    batch_copied out k h y =
-        rw (w.slot no_check, batch_some (length out) k h y, words_length area (slot_of e.slots e.current) q (get_or e.given q 0) k)
-
--- ---- the plan, as the code makes it
-
-pub capped_yes : (n k : ℕ) (b : Bool) → (b && ltb n k) ≡ true → n ≡ capped n b k
-capped_yes n k true t = omega (arith, ltb-true n k t)
-capped_yes n k false t = clash {b = false} t refl
-
-pub capped_no : (n k : ℕ) (b : Bool) → (b && ltb n k) ≡ false → k ≡ capped n b k
-capped_no n k true t = omega (arith, ltb-false n k t)
-capped_no n k false t = refl
-
-module _ (e : EndPoint) (q r own : ℕ) (ran : r ≡ run e.slots e.current q) (o : own ≡ capped e.passed (eqb q e.me) r) where
-  own_is : own ≡ capped e.passed (eqb q e.me) (run e.slots e.current q)
-  own_is = o ∙ ap (capped e.passed (eqb q e.me)) ran
-
-  pub last_idle : is_pending e ≡ false → own ≡ last_given e q
-  unfolding last_given
-  last_idle t = rw t own_is
-
-  pub last_free : holds_record e.records e.me e.change.number ≡ false → own ≡ last_given e q
-  unfolding last_given
-  last_free t = go (is_pending e)
-    where
-      go : (b : Bool) → own ≡ capped (limit e q) (b && holds_record e.records e.me e.change.number) (capped e.passed (eqb q e.me) (run e.slots e.current q))
-      go true = rw t own_is
-      go false = own_is
-
-  pub last_capped : is_pending e ≡ true → holds_record e.records e.me e.change.number ≡ true → (m : ℕ) → m ≡ limit e q → capped m true own ≡ last_given e q
-  unfolding last_given
-  last_capped t h m l = rw (t, h, l, own_is)
-
--- u and h are what the code's tests gave
-module _ (e : EndPoint) (area : List ℕ) (q s i : ℕ) (u : Bool) (x : u ≡ unfit e area) where
-  pub plan_unfit : (u || not (leb q 7)) ≡ true → Planned (batch_checks e area q) s i (record { number = 1; slot = 0; index = 0 })
-  unfolding batch_checks
-  plan_unfit t = planned_no (unfit e area || not (leb q 7)) (check 2 (not (has e.current.set q)) ∷ []) s i (rw x at t)
-
-  module _ (t : (u || not (leb q 7)) ≡ false) (h : Bool) (y : h ≡ has e.current.set q) where
-    first_not_one : verdict (batch_checks e area q) ≡ cond (not h) 2 0
-    unfolding batch_checks verdict
-    first_not_one = let k : (unfit e area || not (leb q 7)) ≡ false = rw x at t in rw (k, ← y)
-
-    pub plan_absent : not h ≡ true → Planned (batch_checks e area q) s i (record { number = 2; slot = 0; index = 0 })
-    plan_absent n =
-        let k : verdict (batch_checks e area q) ≡ 2 = first_not_one ∙ rw n in
-        record { number = sym k; slot = λ z. absurd (let m : ◌≡◌ {A = ℕ} 2 0 = sym k ∙ z in omega arith); index = λ z. absurd (let m : ◌≡◌ {A = ℕ} 2 0 = sym k ∙ z in omega arith) }
-
-    pub plan_here : not h ≡ false → (k j : ℕ) → k ≡ s → j ≡ i → Planned (batch_checks e area q) s i (record { number = 0; slot = k; index = j })
-    plan_here n k j a b = record { number = sym (first_not_one ∙ rw n); slot = λ z. a; index = λ z. b }
-
--- ---- `while j < end { out[j] = area[start + j]; j += 1; }`: m is out after j turns
-
-module _ (area out : List ℕ) (s q i : ℕ) where
-  pub copy_none : out ≡ words_after area s q i 0 ++ drop 0 out
-  unfolding words_after list_below join_below
-  copy_none = refl
-
-  pub copy_more : (m : List ℕ) (j : ℕ) → j < length out → m ≡ words_after area s q i j ++ drop j out
-      → set m j (get_or area (s * 1024 + q * 128 + i + j) 0) ≡ words_after area s q i (j + 1) ++ drop (j + 1) out
-  unfolding words_after list_below join_below place
-  copy_more m j l h =
-      let v = get_or area (s * 1024 + q * 128 + i + j) 0 in
-      let w = words_after area s q i j in
-      let p : s * 1024 + q * 128 + i + j ≡ s * 1024 + q * 128 + (i + j + 1) - 1 = omega arith in
-      ap (λ k. set k j v) (h ∙ ap (λ k. w ++ k) (drop-cons out j 0 l))
-      ∙ set_at w (get_or out j 0) (drop (suc j) out) v j (words_length area s q i j)
-      ∙ rw (add-one, p) (sym (append_assoc w (get_or area (place s q (i + j + 1)) 0 ∷ []) (drop (suc j) out)))
-
-  pub copy_end : (m : List ℕ) (j n : ℕ) → j ≤ n → n ≤ j → m ≡ words_after area s q i j ++ drop j out → m ≡ words_after area s q i n ++ drop n out
-  copy_end m j n a b e = rw (le_antisymm a b) at e
+pub words_taken : (area : List ℕ) (s q i n : ℕ) → place s q (i + 1) + n ≤ length area → take n (drop (place s q (i + 1)) area) ≡ words_after area s q i n
+unfolding words_after list_below join_below
+words_taken area s q i zero l = refl
+words_taken area s q i (suc n) l =
+    let rest = drop (place s q (i + 1)) area in
+    let k : n < length rest = omega (arith, length-drop (place s q (i + 1)) area) in
+    take-suc rest n 0 k
+    ∙ ap (λ (xs : List ℕ). xs ++ (get_or rest n 0 ∷ [])) (words_taken area s q i n (omega arith))
+    ∙ ap (λ (x : ℕ). words_after area s q i n ++ (x ∷ [])) (get_or-drop (place s q (i + 1)) area n 0 ∙ ap (λ k. get_or area k 0) (place_after s q i n))

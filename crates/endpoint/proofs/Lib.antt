@@ -1,5 +1,5 @@
 pub mod Verdicts
-pub mod Settling
+pub mod Refusals
 pub mod Start
 pub mod Spending
 pub mod Parts

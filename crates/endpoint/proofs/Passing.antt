@@ -2,7 +2,7 @@
 use Prim.Native.Nat.{ℕ}
 use native.Mathlib.Omega.{arith}
 use mathlib.Core.Bool.{Bool, true, not, ◌&&◌, ◌||◌}
-use mathlib.Core.Path.{◌≡◌, refl}
+use mathlib.Core.Path.{◌≡◌, refl, sym}
 use lib.Dec.{eqb, leb}
 use lib.ListN.{get_or}
 use borrow.Author.Tests.{leb-true, le-leb}
@@ -163,3 +163,9 @@ module _ (e : EndPoint) where
       let b = three (all_others e fits) (records_fit e.records e.me e.change.number) marked a.1.0 in
       sound_of e (pass_parts a.0 b.0 b.1.0 b.1.1 a.1.1))
       (λ t. parts_pass (parts_of e t)))
+
+pub sound_passed : (e : EndPoint) → sound e ≡ (views_sound e.me e.change e.told e.current e.membership
+    && ((others_fit e.me e.current e.change.number (is_pending e) e.slots.tags e.heard e.received
+    && (records_fit e.records e.me e.change.number && rows_fit e.forwarded))
+    && words_fit e.me e.current e.change.number (is_pending e) e.slots e.given e.passed))
+sound_passed e = sym (pass_sound e)

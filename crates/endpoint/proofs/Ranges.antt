@@ -1,19 +1,19 @@
 -- Of the code's types: the numbers that an end-point's messages are made of lie in their types' ranges. From an end-point and inputs of the code's types every step
 -- leaves and sends such numbers; so each message that a step sends is written, and reads back as it was sent. In order: what is asked; what each step keeps; what it
 -- sends. Assumes nothing.
+use Rattle.std.specs.Prelude.{Ok}
 use Prim.Native.Nat.{ℕ, zero, suc, ◌^◌, ◌≤◌, ◌<◌}
 use native.Mathlib.Omega.{arith}
 use mathlib.Core.Bool.{Bool, true, false, cond}
 use mathlib.Core.List.{List, [], ◌∷◌}
 use mathlib.Core.Logic.{⊎_elim}
-use mathlib.Core.Path.{◌≡◌, refl, sym, ap, subst, ◌∙◌}
+use mathlib.Core.Path.{◌≡◌, refl, sym, subst, ◌∙◌}
 use lib.Dec.{eqb, ltb, lit<}
 use lib.ListN.{get_or, replicate, set, get_or-eq_default}
 use borrow.Author.Tests.{eqb-true, eqb-false, ltb-true}
 use Rattle.below.specs.Below.{list_below}
 use Rattle.below.proofs.Tests.{is_not, side}
 use Rattle.below.proofs.Lists.{list_at, list_length}
-use Rattle.views.specs.declared.View.{View}
 use Rattle.views.specs.Views.{initial, no_view, same}
 use Rattle.views.specs.Cuts.{no_cut}
 use Rattle.views.proofs.Members.{only_low}
@@ -281,5 +281,5 @@ sent_range ev e area r a i = go (eqb (verdict (checks ev e area)) 0) refl
 -- what a step sends, written and read, is what it sent
 pub sent_reads_back : (ev : Event) (e : EndPoint) (area : List ℕ) → Ranged e → WordsRange area → InputRange ev
     → ((step ev e area).message.kind ≡ 0 → ⊥)
-    → read_of (bytes_of (step ev e area).message) ≡ record { message = (step ev e area).message; number = 0 }
+    → read_of (bytes_of (step ev e area).message) ≡ Ok ((step ev e area).message)
 sent_reads_back ev e area r a i h = reads_back (step ev e area).message (sent_range ev e area r a i) (sent_formed ev e area h)

@@ -1,6 +1,7 @@
 pub mod State
 pub mod Fresh
 pub mod Numbers
+pub mod Refusals
 pub mod Spent
 pub mod Ready
 pub mod Due

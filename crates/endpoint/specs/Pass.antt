@@ -1,11 +1,11 @@
 -- Sound in one pass: what is asked of each part, as the code asks it. That together they say `sound` is shown in proofs/Passing.
--- What a plan answers: its step's number and, where that is 0, the slot and the index of the word that the step is about. And the batch in one pass.
+-- What the first checks of a step say of what they let pass. And the batch in one pass.
 -- Assumes nothing.
-use Rattle.std.specs.Prelude.{ℕ, ◌+◌, ◌<◌, min, Bool, true, not, cond, ◌&&◌, ◌||◌, List, [], ◌∷◌, ◌≡◌, eqb, ltb, leb, length, get_or}
+use Rattle.std.specs.Prelude.{ℕ, ◌+◌, ◌<◌, min, Bool, true, false, not, cond, ◌&&◌, ◌||◌, List, [], ◌∷◌, ◌≡◌, eqb, ltb, leb, length, get_or}
 use Rattle.below.specs.Below.{list_below}
 use Rattle.views.specs.Sets.{has}
 use Rattle.views.specs.declared.View.{View}
-use Rattle.views.specs.Views.{no_view, view_ok, same}
+use Rattle.views.specs.Views.{view_ok}
 use Rattle.marks.specs.Marks.{run_in, no_marks as no_words}
 use Rattle.records.specs.Records.{holds_record}
 use Rattle.slots.specs.declared.Slots.{Slots}
@@ -14,21 +14,11 @@ use Rattle.slots.specs.Slots.{place, slot_in, slot_of, run}
 use Rattle.parts.specs.Counts.{given_fit}
 use Rattle.endpoint.specs.declared.Change.{Change}
 use Rattle.endpoint.specs.declared.EndPoint.{EndPoint}
-use Rattle.endpoint.specs.declared.Answer.{Answer}
-use Rattle.endpoint.specs.declared.Plan.{Plan}
-use Rattle.endpoint.specs.declared.InstallPlan.{InstallPlan}
-use Rattle.endpoint.specs.declared.ViewPlan.{ViewPlan}
-use Rattle.endpoint.specs.Ready.{T}
-use Rattle.endpoint.specs.Install.{install_checks}
-use Rattle.endpoint.specs.declared.WordPlan.{WordPlan}
-use Rattle.endpoint.specs.Sound.{heard_from, sound}
-use Rattle.endpoint.specs.Receive.{needs_slot, view_checks, word_checks, forward_checks, live, next_word}
-use Rattle.messages.specs.declared.Message.{Message}
-use Rattle.messages.specs.Messages.{blank}
+use Rattle.endpoint.specs.Sound.{sound}
 use Rattle.endpoint.specs.State.{is_pending}
 use Rattle.endpoint.specs.Application.{unfit}
 use Rattle.endpoint.specs.Give.{limit}
-use Rattle.endpoint.specs.Numbers.{Check, check, verdict}
+use Rattle.endpoint.specs.Numbers.{Check, check}
 
 -- the change's flags and the one of the current view's announcement
 abbrev pub flags_fit : Change → ℕ → Bool
@@ -47,15 +37,14 @@ views_sound p change told current membership =
     leb p 7
     && (flags_fit change told && (view_ok current && (view_ok membership && (has current.set p && has membership.set p))))
 
--- a plan answers its table's number and, where no check applies, this slot and index
-pub record Planned (cs : List Check) (s i : ℕ) (p : Plan) : Type 0 where
-  pub number : p.number ≡ verdict cs
-  pub slot : verdict cs ≡ 0 → p.slot ≡ s
-  pub index : verdict cs ≡ 0 → p.index ≡ i
-
--- what give out answers by its one way out: its number, and a word that is 0 where it is refused
-abbrev pub word_with : ℕ → EndPoint → ℕ → Answer
-word_with n e w = record { ep = e; message = blank 0; view = no_view; word = w; number = n; set = 0 }
+-- what is known of an end-point and an area that are fit, and of the current view's slot s
+pub record Fits (e : EndPoint) (area : List ℕ) (s : ℕ) : Type 0 where
+  pub fit : unfit e area ≡ false
+  pub sound_now : sound e ≡ true
+  pub whole : length area ≡ 4096
+  pub slot : s ≡ slot_of e.slots e.current
+  pub slot_low : s < 4
+  pub me_low : e.me < 8
 
 -- ---- what a received message comes to
 
@@ -65,22 +54,6 @@ pub record Receivable (e : EndPoint) (area : List ℕ) (q : ℕ) : Type 0 where
   pub whole : length area ≡ 4096
   pub low : q < 8
   pub other : q ≡ e.me → ⊥
-
-abbrev pub view_plan : EndPoint → ℕ → View → ViewPlan
-view_plan e q v = record { number = verdict (view_checks e q v); needs = needs_slot e v }
-
-abbrev pub word_plan : EndPoint → List ℕ → ℕ → ℕ → WordPlan
-word_plan e area q w = record { number = verdict (word_checks e area q w); stored = live e q; slot = slot_of e.slots (heard_from e q); index = next_word e q }
-
-abbrev pub forward_plan : EndPoint → List ℕ → ℕ → Message → WordPlan
-forward_plan e area q m =
-    record { number = verdict (forward_checks e area q m); stored = same m.view e.current; slot = slot_of e.slots e.current; index = m.index }
-
--- ---- what install comes to
-
-pub record InstallPlanned (e : EndPoint) (p : InstallPlan) : Type 0 where
-  pub number : p.number ≡ verdict (install_checks e)
-  pub set : verdict (install_checks e) ≡ 0 → p.set ≡ T e
 
 -- ---- the batch in one pass: that it is so many single give-outs is shown in proofs/Batching
 

@@ -1,126 +1,110 @@
-// What a step answers, and its number: the first of its checks that applies.
-ghost use Rattle.std.specs.Prelude.{cond, ◌≡◌};
-ghost use Rattle.endpoint.specs.Numbers.{refused_with, declares as declares_of, sends as sends_of, installs as installs_of};
-ghost use Rattle.endpoint.specs.Pass.{word_with};
-ghost use Rattle.endpoint.specs.State.{with_heard, with_slots};
+// What a step answers: refused, or accepted with what it gives.
+ghost use Rattle.std.specs.Prelude.{◌≡◌, MatchResult};
+ghost use Rattle.messages.specs.Messages.{blank};
+ghost use Rattle.views.specs.Views.{no_view};
+ghost use Rattle.endpoint.specs.Numbers.{refused_with, accepted as accepted_of, declares as declares_of, sends as sends_of, gives as gives_of, installs as installs_of};
+ghost use Rattle.endpoint.specs.Refusals.{number_of};
 
+use crate::refusal::Refusal;
 use crate::{Answer, EndPoint};
 use messages::Message;
-use slots::Slots;
 use views::View;
 
-// The number n where its check applies, and else what the later checks give.
-pub(crate) fn first(n: u8, applies: bool, later: u8) -> u8
-    ensures { result ≡ cond applies n later }
-{
-    if applies { n } else { later }
+// What an accepted step gives besides the end-point.
+#[derive(Clone, Copy)]
+pub(crate) struct Given {
+    pub message: Message,
+    pub view: View,
+    pub word: u64,
+    pub set: u8,
 }
 
-// The same end-point, with each small field written once more, by itself: the compiler then keeps the large ones apart, and a step that leaves them copies them once.
-pub(crate) fn apart(ep: EndPoint) -> EndPoint
-    ensures { result ≡ ep }
-{
-    let received = ep.received;
-    let given = ep.given;
-    let change = ep.change;
-    let mut e = ep;
-    e.received = received;
-    e.given = given;
-    e.change = change;
-    e.declared = ep.declared;
-    e.told = ep.told;
-    e.passed = ep.passed;
-    e
-}
-
-// The end-point with a number and nothing more: a refusal, or 0 for a step that gives nothing.
-pub(crate) fn plain(ep: EndPoint, number: u8) -> Answer
-    ensures { result ≡ refused_with number ep }
-{
-    let e = apart(ep);
-    Answer {
-        ep: e,
-        message: Message::blank(0),
-        view: View::none(),
-        word: 0,
-        number,
-        set: 0,
+impl Given {
+    // All of it is blank.
+    pub(crate) fn nothing() -> Given
+        ensures { result ≡ record { message = blank 0; view = no_view; word = 0; set = 0 } }
+    {
+        Given {
+            message: Message::blank(0),
+            view: View::none(),
+            word: 0,
+            set: 0,
+        }
     }
 }
 
-// With other slots and received counts. A step that writes the area too has this answer first: after such a write the end-point would be copied once more.
-pub(crate) fn keeps(ep: EndPoint, number: u8, slots: Slots, received: [u8; 8]) -> Answer
-    ensures { result ≡ refused_with number (with_heard ep.heard received (with_slots slots ep)) }
-{
-    let mut e = apart(ep);
-    e.slots = slots;
-    e.received = received;
-    Answer {
-        ep: e,
-        message: Message::blank(0),
-        view: View::none(),
-        word: 0,
-        number,
-        set: 0,
+impl EndPoint {
+    // The end-point with what a step came to.
+    pub(crate) fn answer(&self, outcome: Result<Given, Refusal>) -> Answer
+        ensures { MatchResult outcome (λ g. result ≡ record { ep = self.now; message = g.message; view = g.view; word = g.word; number = 0; set = g.set }) (λ r. result ≡ refused_with (number_of r) self.now) }
+    {
+        let (number, given) = match outcome {
+            Ok(given) => (0, given),
+            Err(refusal) => (u8::from(refusal), Given::nothing()),
+        };
+        Answer {
+            ep: *self,
+            message: given.message,
+            view: given.view,
+            word: given.word,
+            number,
+            set: given.set,
+        }
     }
-}
 
-// Accepted, with a message to a set.
-pub(crate) fn sends(ep: EndPoint, set: u8, message: Message) -> Answer
-    ensures { result ≡ sends_of ep set message }
-{
-    let e = apart(ep);
-    Answer {
-        ep: e,
-        message,
-        view: View::none(),
-        word: 0,
-        number: 0,
-        set,
+    // A public step answers by value, so it leaves with this by `return`: for `?` each would need a second function, as receive has.
+    pub(crate) fn refused(&self, refusal: Refusal) -> Answer
+        ensures { result ≡ refused_with (number_of refusal) self.now }
+    {
+        self.answer(Err(refusal))
     }
-}
 
-// Accepted, with a set.
-pub(crate) fn declares(ep: EndPoint, set: u8) -> Answer
-    ensures { result ≡ declares_of ep set }
-{
-    let e = apart(ep);
-    Answer {
-        ep: e,
-        message: Message::blank(0),
-        view: View::none(),
-        word: 0,
-        number: 0,
-        set,
+    // Accepted, with nothing.
+    pub(crate) fn accepted(&self) -> Answer
+        ensures { result ≡ accepted_of self.now }
+    {
+        self.answer(Ok(Given::nothing()))
     }
-}
 
-// A number and a word: 0 where it is refused.
-pub(crate) fn gives(ep: EndPoint, number: u8, word: u64) -> Answer
-    ensures { result ≡ word_with number ep word }
-{
-    let e = apart(ep);
-    Answer {
-        ep: e,
-        message: Message::blank(0),
-        view: View::none(),
-        word,
-        number,
-        set: 0,
+    // Accepted, with a message to a set.
+    pub(crate) fn sends(&self, set: u8, message: Message) -> Answer
+        ensures { result ≡ sends_of self.now set message }
+    {
+        self.answer(Ok(Given {
+            message,
+            set,
+            ..Given::nothing()
+        }))
     }
-}
 
-// Accepted, with a view and T.
-pub(crate) fn installs(ep: EndPoint, view: View, set: u8) -> Answer
-    ensures { result ≡ installs_of ep view set }
-{
-    let e = apart(ep);
-    Answer {
-        ep: e,
-        message: Message::blank(0),
-        view,
-        word: 0,
-        number: 0,
-        set,
+    // Accepted, with a set.
+    pub(crate) fn declares(&self, set: u8) -> Answer
+        ensures { result ≡ declares_of self.now set }
+    {
+        self.answer(Ok(Given {
+            set,
+            ..Given::nothing()
+        }))
+    }
+
+    // Accepted, with a word.
+    pub(crate) fn gives(&self, word: u64) -> Answer
+        ensures { result ≡ gives_of self.now word }
+    {
+        self.answer(Ok(Given {
+            word,
+            ..Given::nothing()
+        }))
+    }
+
+    // Accepted, with a view and T.
+    pub(crate) fn installs(&self, view: View, set: u8) -> Answer
+        ensures { result ≡ installs_of self.now view set }
+    {
+        self.answer(Ok(Given {
+            view,
+            set,
+            ..Given::nothing()
+        }))
     }
 }

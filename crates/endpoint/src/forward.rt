@@ -2,69 +2,55 @@
 ghost use Rattle.std.specs.Prelude.{◌≡◌, ◌+◌};
 ghost use Rattle.slots.specs.Slots.{slot_of};
 ghost use Rattle.endpoint.specs.Forward.{forward_out_checks, due_index};
-ghost use Rattle.endpoint.specs.Pass.{Planned};
-ghost use Rattle.endpoint.specs.Ready.{ready as ready_of};
-ghost use Rattle.endpoint.specs.Sound.{sound as sound_of};
+ghost use Rattle.endpoint.specs.Refusals.{Judged};
 ghost use Rattle.endpoint.specs.Steps.{step, forward as forward_of};
 
-use crate::{Answer, EndPoint, Plan, answers, sound};
+use crate::refusal::Refusal;
+use crate::{Answer, EndPoint, Place};
 use messages::Message;
 use views::sets;
 
-// Whether a view is ready.
-pub(crate) fn ready(e: EndPoint) -> bool
-    ensures { result ≡ ready_of e }
-{
-    let start = e.membership.start(e.me);
-    (e.change.pending == 1) & ((e.current.id < e.membership.id) & (start == e.change.number))
-}
-
-// Where the word to forward stands.
-fn forward_plan(e: EndPoint, ok: bool, area: &[u64], q: u8, r: u8) -> Plan
-    requires { ok ≡ sound_of e }
-    ensures { Planned (forward_out_checks e area.now q r) (slot_of e.slots e.current) (due_index e q r) result }
-{
-    let unfit = sound::unfit(ok, area);
-    if unfit | (!(q <= 7) | !(r <= 7)) {
-        return Plan {
-            number: 1,
-            slot: 0,
-            index: 0,
-        };
-    }
-    let current = e.current;
-    let held = e.slots;
-    let tags = held.tags;
-    let rows = held.marks;
-    let slot = slots::slot_in(tags, current);
-    let m = slots::marks_in(rows, slot);
-    let marked = e.forwarded;
-    let agreed = agreement::agree(e.current, e.membership, e.records);
-    let due = agreed.lowest_due(e.current.set, e.me, marked, m.rows[r as usize], q, r);
-    let ready = ready(e);
-    let none = answers::first(9, agreed.unnamed, answers::first(10, !(due < 128), 0));
-    Plan {
-        number: answers::first(4, !ready, none),
-        slot,
-        index: due + 1,
-    }
-}
-
 impl EndPoint {
+    // Where the word to forward stands.
+    #[tactic(auto, unfolding(crate::specs::Numbers::verdict, crate::specs::Forward::forward_out_checks, crate::specs::Forward::due_index))]
+    fn forward_place(&self, area: &[u64], q: u8, r: u8) -> Result<Place, Refusal>
+        ensures { Judged (forward_out_checks self.now area.now q r) (record { slot = slot_of self.now.slots self.now.current; index = due_index self.now q r }) result }
+    {
+        let slot = self.fit(area)?;
+        if q > 7 || r > 7 {
+            return Err(Refusal::Unfit);
+        }
+        if !self.ready() {
+            return Err(Refusal::OutOfTurn);
+        }
+        let agreed = self.agreed();
+        if agreed.unnamed {
+            return Err(Refusal::NotNamed);
+        }
+        let members = self.current.set;
+        let held = self.slots.marks_in(slot).rows[r as usize];
+        let lowest = agreed.lowest_due(members, self.me, &self.forwarded, held, q, r);
+        let Some(due) = lowest else {
+            return Err(Refusal::NothingToDo);
+        };
+        Ok(Place {
+            slot,
+            index: due + 1,
+        })
+    }
+
     // Forward: sends the word to q, raises the mark to it.
+    #[tactic(auto, unfolding(crate::specs::Opened::stepped, crate::specs::Forward::forwards, crate::specs::Forward::raised))]
     pub fn forward(mut self, area: &[u64], q: u8, r: u8) -> Answer
         ensures { result ≡ step (forward_of q r) self area.now }
     {
-        let ok = sound::sound(self);
-        let p = forward_plan(self, ok, area, q, r);
-        if p.number != 0 {
-            return answers::plain(self, p.number);
-        }
-        let word = parts::word_at(area, slots::place(p.slot, r, p.index));
-        let message = Message::of_forward(r, p.index, self.current, word);
-        let rows = self.forwarded;
-        let next = agreement::raised(rows, q, r, p.index);
-        self.forwarded = next;
-        answers::sends(self, sets::only(q), message)
+        let place = match self.forward_place(area, q, r) {
+            Ok(place) => place,
+            Err(refusal) => return self.refused(refusal),
+        };
+        let word = parts::word_at(area, slots::place(place.slot, r, place.index));
+        let message = Message::of_forward(r, place.index, self.current, word);
+        agreement::raise(&mut self.forwarded, q, r, place.index);
+        self.sends(sets::only(q), message)
     }
 }

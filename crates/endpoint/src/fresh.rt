@@ -5,7 +5,8 @@ ghost use Rattle.views.specs.Views.{initial};
 ghost use Rattle.endpoint.specs.Fresh.{fresh as fresh_of};
 ghost use Rattle.endpoint.specs.Steps.{fresh_step};
 
-use crate::{Answer, Change, EndPoint, answers};
+use crate::refusal::Refusal;
+use crate::{Answer, Change, EndPoint};
 use records::Records;
 use slots::Slots;
 use views::{View, sets};
@@ -14,42 +15,36 @@ use views::{View, sets};
 fn first_views() -> [View; 8]
     ensures { result ≡ list_below initial 8 }
 {
-    let none = View::none();
-    let mut views = [none; 8];
-    let mut q: u8 = 0;
-    while q < 8 {
-        let v = View::initial(q);
-        views[q as usize] = v;
-        q += 1;
+    let mut views = [View::none(); 8];
+    for q in 0..8u8 {
+        views[q as usize] = View::initial(q);
     }
     views
 }
 
+#[tactic(auto, unfolding(crate::specs::Fresh::fresh, crate::specs::Fresh::fresh_slots))]
 fn made(p: u8) -> EndPoint
     ensures { result ≡ fresh_of p }
 {
     let first = View::initial(p);
-    let heard = first_views();
-    let forwarded = agreement::no_rows();
-    let received = [0u8; 8];
-    let given = [0u8; 8];
-    let change = Change {
-        number: 0,
-        set: 0,
-        opened: 0,
-        pending: 0,
-        block: 0,
-    };
+    let mut slots = Slots::none();
+    slots.take(first);
     EndPoint {
         current: first,
         membership: first,
-        heard,
+        heard: first_views(),
         records: Records::none(),
-        slots: Slots::none().taken(first),
-        forwarded,
-        received,
-        given,
-        change,
+        slots,
+        forwarded: agreement::no_rows(),
+        received: [0; 8],
+        given: [0; 8],
+        change: Change {
+            number: 0,
+            set: 0,
+            opened: 0,
+            pending: 0,
+            block: 0,
+        },
         me: p,
         declared: sets::only(p),
         told: 1,
@@ -59,9 +54,13 @@ fn made(p: u8) -> EndPoint
 
 impl EndPoint {
     // Fresh end-point p; above 7 it is refused.
+    #[tactic(auto, unfolding(crate::specs::Opened::stepped, crate::specs::Steps::fresh_step))]
     pub fn fresh(p: u8) -> Answer
         ensures { result ≡ fresh_step p }
     {
-        answers::plain(made(p), answers::first(1, !(p <= 7), 0))
+        if p > 7 {
+            return made(p).refused(Refusal::Unfit);
+        }
+        made(p).accepted()
     }
 }

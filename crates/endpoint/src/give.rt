@@ -1,96 +1,68 @@
 // Give out, and how far give-outs may go.
-ghost use Rattle.std.specs.Prelude.{◌≡◌, ◌<◌};
+ghost use Rattle.std.specs.Prelude.{cond, ◌&&◌, Some, None, ◌≡◌, ◌<◌, OnOk};
+ghost use Rattle.records.specs.Records.{holds_record};
 ghost use Rattle.slots.specs.Slots.{slot_of};
-ghost use Rattle.endpoint.specs.Give.{limit as limit_of, beyond_cut, give_checks, next_given};
-ghost use Rattle.endpoint.specs.Pass.{Planned};
-ghost use Rattle.endpoint.specs.Sound.{sound as sound_of};
+ghost use Rattle.endpoint.specs.Give.{limit as limit_of, give_checks, next_given};
+ghost use Rattle.endpoint.specs.Refusals.{Judged};
+ghost use Rattle.endpoint.specs.State.{is_pending};
 ghost use Rattle.endpoint.specs.Steps.{step, give_out};
 
-use crate::{Answer, EndPoint, Plan, answers, forward, sound};
+use crate::refusal::Refusal;
+use crate::{Answer, EndPoint, Place};
 use views::sets;
 
-// How far give-outs from q may go: p's own cut if no view is ready, else q's agreed count.
-pub(crate) fn limit(e: EndPoint, q: u8) -> u8
-    requires { q < 8 }
-    ensures { result ≡ limit_of e q }
-{
-    if forward::ready(e) {
-        let agreed = agreement::agree(e.current, e.membership, e.records);
-        return agreed.counts.count(q);
-    }
-    let own = e.records.the(e.me, e.change.number);
-    own.cut.count(q)
-}
-
-// Whether the next word of q is beyond the cut, with a change pending.
-fn past_cut(e: EndPoint, q: u8, next: u8) -> bool
-    requires q_bound { (q < 8) × (next ≡ next_given e q) }
-    requires pending { e.change.pending ≡ 1 }
-    ensures { result ≡ beyond_cut e q }
-{
-    if !e.records.holds(e.me, e.change.number) {
-        return false;
-    }
-    limit(e, q) < next
-}
-
-// Whether it is beyond the cut. The rest stands apart: the end-point is copied for it, which is wanted only with a change pending.
-fn beyond_cut(e: EndPoint, q: u8, next: u8) -> bool
-    requires { (q < 8) × (next ≡ next_given e q) }
-    ensures { result ≡ beyond_cut e q }
-{
-    if e.change.pending != 1 {
-        return false;
-    }
-    past_cut(e, q, next)
-}
-
-// Where q's next word to give out stands.
-fn give_plan(e: EndPoint, ok: bool, area: &[u64], q: u8) -> Plan
-    requires { ok ≡ sound_of e }
-    ensures { Planned (give_checks e area.now q) (slot_of e.slots e.current) (next_given e q) result }
-{
-    let unfit = sound::unfit(ok, area);
-    if unfit | !(q <= 7) {
-        return Plan {
-            number: 1,
-            slot: 0,
-            index: 0,
-        };
-    }
-    let current = e.current;
-    let given = e.given;
-    let held = e.slots;
-    let tags = held.tags;
-    let rows = held.marks;
-    let next = given[q as usize] + 1;
-    let slot = slots::slot_in(tags, current);
-    let here = sets::contains(e.current.set, q);
-    let holds = marks::holds(slots::marks_in(rows, slot), q, next);
-    let beyond = beyond_cut(e, q, next);
-    let none = !holds | ((q == e.me) & (e.passed < next));
-    let last = answers::first(10, none, answers::first(11, beyond, 0));
-    Plan {
-        number: answers::first(2, !here, last),
-        slot,
-        index: next,
-    }
-}
-
 impl EndPoint {
+    // How far give-outs from q may go, where there is a limit: p's own cut if no view is ready, else q's agreed count.
+    #[tactic(auto, unfolding(crate::specs::Give::limit))]
+    pub(crate) fn limit(&self, q: u8) -> Option<u8>
+        requires { q < 8 }
+        ensures { result ≡ cond (is_pending self.now && holds_record self.now.records self.now.me self.now.change.number) (Some (limit_of self.now q)) None }
+    {
+        if self.change.pending != 1 {
+            return None;
+        }
+        let own = self.records.find(self.me, self.change.number)?;
+        if self.ready() {
+            return Some(self.agreed().counts.count(q));
+        }
+        Some(own.cut.count(q))
+    }
+
+    // Where q's next word to give out stands.
+    #[tactic(auto, unfolding(crate::specs::Numbers::verdict, crate::specs::Give::give_checks, crate::specs::Give::next_given, crate::specs::Give::nothing_next, crate::specs::Give::beyond_cut, slots::specs::Slots::held_word, slots::specs::Slots::marks_at))]
+    fn give_place(&self, area: &[u64], q: u8) -> Result<Place, Refusal>
+        ensures judged { Judged (give_checks self.now area.now q) (record { slot = slot_of self.now.slots self.now.current; index = next_given self.now q }) result }
+        ensures low { OnOk result (q < 8) }
+    {
+        let slot = self.fit(area)?;
+        if q > 7 {
+            return Err(Refusal::Unfit);
+        }
+        if !sets::contains(self.current.set, q) {
+            return Err(Refusal::Absent);
+        }
+        let next = self.given[q as usize] + 1;
+        let held = self.slots.marks_in(slot).holds(q, next);
+        if !held || (q == self.me && self.passed < next) {
+            return Err(Refusal::NothingToDo);
+        }
+        if self.limit(q).is_some_and(|limit| limit < next) {
+            return Err(Refusal::BeyondCut);
+        }
+        Ok(Place { slot, index: next })
+    }
+
     // Give out from q: gives the word.
+    #[tactic(auto, unfolding(crate::specs::Opened::stepped, crate::specs::Give::gives_next))]
     pub fn give_out(mut self, area: &[u64], q: u8) -> Answer
         ensures { result ≡ step (give_out q) self area.now }
     {
-        let ok = sound::sound(self);
-        let p = give_plan(self, ok, area, q);
-        let mut given = self.given;
-        let mut word: u64 = 0;
-        if p.number == 0 {
-            given[q as usize] = p.index;
-            word = parts::word_at(area, slots::place(p.slot, q, p.index));
-        }
-        self.given = given;
-        answers::gives(self, p.number, word)
+        let place = match self.give_place(area, q) {
+            Ok(place) => place,
+            Err(refusal) => return self.refused(refusal),
+        };
+        let word = parts::word_at(area, slots::place(place.slot, q, place.index));
+        self.given[q as usize] = place.index;
+        self.gives(word)
     }
 }

@@ -1,64 +1,66 @@
 // Install: the membership view becomes current.
 ghost use Rattle.std.specs.Prelude.{[], ◌≡◌};
-ghost use Rattle.endpoint.specs.Install.{install_checks, slots_after};
-ghost use Rattle.endpoint.specs.Numbers.{verdict};
-ghost use Rattle.endpoint.specs.Pass.{InstallPlanned};
-ghost use Rattle.endpoint.specs.Sound.{sound as sound_of};
+ghost use Rattle.endpoint.specs.Install.{install_checks};
+ghost use Rattle.endpoint.specs.Ready.{T};
+ghost use Rattle.endpoint.specs.Refusals.{Judged};
 ghost use Rattle.endpoint.specs.Steps.{step, install as install_of};
 
-use crate::{Answer, EndPoint, InstallPlan, answers, forward, sound};
-use slots::Slots;
-
-fn install_plan(e: EndPoint, ok: bool) -> InstallPlan
-    requires { ok ≡ sound_of e }
-    ensures { InstallPlanned e result }
-{
-    if !ok {
-        return InstallPlan { number: 1, set: 0 };
-    }
-    let ready = forward::ready(e);
-    let marked = e.forwarded;
-    let agreed = agreement::agree(e.current, e.membership, e.records);
-    let owes = agreed.owes(e.current.set, e.me, marked);
-    let cut = agreed.counts;
-    let enough = parts::counts_least(e.current.set, &cut.counts, &e.given);
-    let within = parts::counts_least(e.current.set, &e.given, &cut.counts);
-    let given = answers::first(13, !enough, answers::first(15, !within, 0));
-    let held = answers::first(9, agreed.unnamed, answers::first(12, owes, given));
-    InstallPlan {
-        number: answers::first(4, !ready, held),
-        set: agreed.set,
-    }
-}
-
-// What the new view makes spent is freed, then the new view has its slot or a new one.
-fn slots_after(e: EndPoint) -> Slots
-    ensures { result ≡ slots_after e }
-{
-    let left = e.slots.freed(e.me, e.membership, e.change.number, false);
-    left.with_slot(e.membership)
-}
+use crate::refusal::Refusal;
+use crate::{Answer, EndPoint};
+use slots::Standing;
 
 impl EndPoint {
-    // Install: answers the view and T.
+    // T, where nothing is left to do before the membership view is installed.
+    #[tactic(auto, unfolding(crate::specs::Numbers::verdict, crate::specs::Install::install_checks))]
+    fn installable(&self) -> Result<u8, Refusal>
+        ensures { Judged (install_checks self.now) (T self.now) result }
+    {
+        if !self.sound() {
+            return Err(Refusal::Unfit);
+        }
+        if !self.ready() {
+            return Err(Refusal::OutOfTurn);
+        }
+        let agreed = self.agreed();
+        if agreed.unnamed {
+            return Err(Refusal::NotNamed);
+        }
+        let members = self.current.set;
+        if agreed.owes(members, self.me, &self.forwarded) {
+            return Err(Refusal::NotForwarded);
+        }
+        if !parts::counts_least(members, &agreed.counts.counts, &self.given) {
+            return Err(Refusal::FewerGiven);
+        }
+        if !parts::counts_least(members, &self.given, &agreed.counts.counts) {
+            return Err(Refusal::MoreGiven);
+        }
+        Ok(agreed.set)
+    }
+
+    // Install: answers the view and T. What the new view makes spent is freed, then it has its slot or a new one.
+    #[tactic(auto, unfolding(crate::specs::Opened::stepped, crate::specs::Install::after_install, crate::specs::Install::slots_after))]
     pub fn install(mut self) -> Answer
         ensures { result ≡ step install_of self [] }
     {
-        let ok = sound::sound(self);
-        let p = install_plan(self, ok);
-        if p.number != 0 {
-            return answers::plain(self, p.number);
-        }
+        let set = match self.installable() {
+            Ok(set) => set,
+            Err(refusal) => return self.refused(refusal),
+        };
         let view = self.membership;
-        let next = slots_after(self);
-        let given = [0u8; 8];
+        let next = Standing {
+            current: view,
+            pending: false,
+            ..self.standing()
+        };
+        self.slots.free_spent(&next);
+        self.slots.give_slot(view);
         self.current = view;
-        self.slots = next;
-        self.given = given;
+        self.given = [0; 8];
         self.told = 0;
         self.passed = 0;
         self.change.pending = 0;
         self.change.block = 0;
-        answers::installs(self, view, p.set)
+        self.installs(view, set)
     }
 }

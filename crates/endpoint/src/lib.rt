@@ -12,16 +12,18 @@ mod membership;
 mod own;
 mod ready;
 mod receive;
+mod refusal;
 mod sound;
 
 use agreement::Row;
 use messages::Message;
 use records::Records;
+pub use refusal::Refusal;
 use slots::Slots;
 use views::View;
 
 // The change that the membership service has started: latest start number and set, whether it is open and pending, the block state.
-// opened and pending are 0 or 1; block is 0 free, 1 asked, 2 blocked.
+// opened and pending are 0 or 1; block is 0 free, 1 asked, 2 blocked: numbers, as the C header has them.
 #[repr(C)]
 #[derive(Clone, Copy)]
 pub struct Change {
@@ -33,7 +35,7 @@ pub struct Change {
 }
 
 // "What an end-point remembers". told is 1 where the current view is announced. p's own entries of heard and received are no part of it.
-// The slots stand between two small fields, so that they are copied apart from the rest (answers::apart).
+// Its fields, their order and their layout are the C header's.
 #[repr(C)]
 #[derive(Clone, Copy)]
 pub struct EndPoint {
@@ -52,7 +54,7 @@ pub struct EndPoint {
     pub passed: u8,
 }
 
-// What a step answers: the end-point after it, its number (0 is accepted), and what it gives; what it does not give is blank.
+// What a step answers, as the C header has it: the end-point after it, its number (0 is accepted), and what it gives; what it does not give is blank.
 #[repr(C)]
 #[derive(Clone, Copy)]
 pub struct Answer {
@@ -64,7 +66,7 @@ pub struct Answer {
     pub set: u8,
 }
 
-// What a batch answers: the end-point after it, how many single give-outs it equals, its number.
+// What a batch answers, as the C header has it: the end-point after it, how many single give-outs it equals, its number.
 #[repr(C)]
 #[derive(Clone, Copy)]
 pub struct Batch {
@@ -73,33 +75,9 @@ pub struct Batch {
     pub number: u8,
 }
 
-// A step's number and, where that is 0, the slot and the index of the word that it is about.
+// Where a word stands: its slot and its index.
 #[derive(Clone, Copy)]
-struct Plan {
-    number: u8,
+struct Place {
     slot: u8,
     index: u8,
-}
-
-// A received view's number, and whether it takes a slot.
-#[derive(Clone, Copy)]
-struct ViewPlan {
-    number: u8,
-    needs: bool,
-}
-
-// A received word's number, whether it is stored, and where.
-#[derive(Clone, Copy)]
-struct WordPlan {
-    number: u8,
-    stored: bool,
-    slot: u8,
-    index: u8,
-}
-
-// Install's number and, where that is 0, T.
-#[derive(Clone, Copy)]
-struct InstallPlan {
-    number: u8,
-    set: u8,
 }

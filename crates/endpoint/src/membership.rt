@@ -5,66 +5,63 @@ ghost use Rattle.endpoint.specs.Numbers.{verdict};
 ghost use Rattle.endpoint.specs.Sound.{sound as sound_of};
 ghost use Rattle.endpoint.specs.Steps.{step, start_change, membership_view};
 
-use crate::{Answer, Change, EndPoint, answers, sound};
-use agreement::Row;
+use crate::refusal::Refusal;
+use crate::{Answer, Change, EndPoint};
+use slots::Standing;
 use views::{View, sets};
-
-fn start_number(e: EndPoint, ok: bool, number: u32, set: u8) -> u8
-    requires { ok ≡ sound_of e }
-    ensures { result ≡ verdict (start_checks e number set) }
-{
-    let here = sets::contains(set, e.me);
-    let old = answers::first(3, !(e.change.number < number), 0);
-    answers::first(1, !ok, answers::first(2, !here, old))
-}
-
-fn membership_number(e: EndPoint, ok: bool, v: View) -> u8
-    requires { ok ≡ sound_of e }
-    ensures { result ≡ verdict (membership_checks e v) }
-{
-    let formed = v.well_formed();
-    let here = sets::contains(v.set, e.me);
-    let inside = sets::within(v.set, e.change.set);
-    let start = v.start(e.me);
-    let turn = (e.change.opened == 1) & ((start == e.change.number) & inside);
-    let late = answers::first(3, !(e.membership.id < v.id), answers::first(4, !turn, 0));
-    answers::first(1, !ok | !formed, answers::first(2, !here, late))
-}
 
 impl EndPoint {
     // Start change: stored; open and pending. What that makes spent is freed.
+    #[tactic(auto, unfolding(crate::specs::Opened::stepped, crate::specs::Membership::start_checks, crate::specs::Membership::after_start))]
     pub fn start_change(mut self, number: u32, set: u8) -> Answer
         ensures { result ≡ step (start_change number set) self [] }
     {
-        let ok = sound::sound(self);
-        let n = start_number(self, ok, number, set);
-        if n != 0 {
-            return answers::plain(self, n);
+        if !self.sound() {
+            return self.refused(Refusal::Unfit);
         }
-        let next = self.slots.freed(self.me, self.current, number, true);
-        self.slots = next;
-        self.change.number = number;
-        self.change.set = set;
-        self.change.opened = 1;
-        self.change.pending = 1;
-        answers::plain(self, 0)
+        if !sets::contains(set, self.me) {
+            return self.refused(Refusal::Absent);
+        }
+        if number <= self.change.number {
+            return self.refused(Refusal::NotNewer);
+        }
+        let next = Standing {
+            latest: number,
+            pending: true,
+            ..self.standing()
+        };
+        self.slots.free_spent(&next);
+        self.change = Change {
+            number,
+            set,
+            opened: 1,
+            pending: 1,
+            ..self.change
+        };
+        self.accepted()
     }
 
     // Membership view: stored; no longer open; all forward marks become 0.
+    #[tactic(auto, unfolding(crate::specs::Opened::stepped, crate::specs::Membership::membership_checks, crate::specs::Membership::after_membership))]
     pub fn membership_view(mut self, v: View) -> Answer
         ensures { result ≡ step (membership_view v) self [] }
     {
-        let ok = sound::sound(self);
-        let n = membership_number(self, ok, v);
-        if n != 0 {
-            return answers::plain(self, n);
+        if !self.sound() || !v.well_formed() {
+            return self.refused(Refusal::Unfit);
         }
-        let marks = [0u8; 8];
-        let row = Row { marks };
-        let rows = [row; 8];
+        if !sets::contains(v.set, self.me) {
+            return self.refused(Refusal::Absent);
+        }
+        if v.id <= self.membership.id {
+            return self.refused(Refusal::NotNewer);
+        }
+        let newest = v.start(self.me) == self.change.number;
+        if self.change.opened != 1 || !newest || !sets::within(v.set, self.change.set) {
+            return self.refused(Refusal::OutOfTurn);
+        }
         self.membership = v;
-        self.forwarded = rows;
+        self.forwarded = agreement::no_rows();
         self.change.opened = 0;
-        answers::plain(self, 0)
+        self.accepted()
     }
 }

@@ -1,205 +1,188 @@
 // Receive: a view, a word, a sync or a forward from another member.
-ghost use Rattle.std.specs.Prelude.{false, ◌≡◌, ◌<◌};
-ghost use Rattle.endpoint.specs.Numbers.{accepted, settle, settle_area};
-ghost use Rattle.endpoint.specs.Pass.{view_plan, word_plan, forward_plan, Receivable};
-ghost use Rattle.endpoint.specs.Receive.{unreceivable as unreceivable_of, view_checks, after_view, word_checks, after_word, area_after_word, sync_checks, after_sync, forward_checks, after_forward, area_after_forward, needs_slot as needs_of};
-ghost use Rattle.endpoint.specs.Sound.{sound as sound_of};
+ghost use Rattle.std.specs.Prelude.{true, false, cond, Some, None, ◌≡◌, ◌≤◌, ◌<◌, length, IfOk, IfSome, MatchResult};
+ghost use Rattle.slots.specs.Slots.{place, slot_of};
+ghost use Rattle.messages.specs.Kinds.{code_of};
+ghost use Rattle.endpoint.specs.Pass.{Fits, Receivable};
+ghost use Rattle.endpoint.specs.Receive.{unreceivable, view_checks, after_view, live, next_word, word_checks, after_word, area_after_word, sync_checks, after_sync, forward_checks, after_forward, area_after_forward, needs_slot as needs_of, receive_checks, after_receive, area_after_receive};
+ghost use Rattle.endpoint.specs.Refusals.{number_of, Judged, Changes};
+ghost use Rattle.endpoint.specs.Sound.{heard_from};
 ghost use Rattle.endpoint.specs.Steps.{step, area_after, receive as receive_of};
 
-use crate::{Answer, EndPoint, ViewPlan, WordPlan, answers, sound};
-use messages::Message;
+use crate::answers::Given;
+use crate::refusal::Refusal;
+use crate::{Answer, EndPoint, Place};
+use messages::{Kind, Message};
 use records::Record;
 use views::{View, sets};
 
-// What every message is asked first.
-fn unreceivable(e: EndPoint, ok: bool, area: &[u64], q: u8, m: Message) -> bool
-    requires { ok ≡ sound_of e }
-    ensures { result ≡ unreceivable_of e area.now q m }
-{
-    let unfit = sound::unfit(ok, area);
-    let formed = m.well_formed();
-    unfit | (!(q <= 7) | ((q == e.me) | (!formed | !(m.kind <= 4))))
-}
-
-// Whether a view has no slot and needs one.
-fn needs_slot(e: EndPoint, v: View) -> bool
-    ensures { result ≡ needs_of e v }
-{
-    let held = e.slots;
-    let tags = held.tags;
-    let current = v.same(e.current);
-    let spent = slots::spent(e.me, e.current, e.change.number, e.change.pending == 1, v);
-    let has = slots::slot_in(tags, v) < 4;
-    !current & (!spent & !has)
-}
-
-fn view_plan(e: EndPoint, q: u8, v: View) -> ViewPlan
-    requires { q < 8 }
-    ensures { result ≡ view_plan e q v }
-{
-    let held = e.slots;
-    let tags = held.tags;
-    let heard = e.heard[q as usize];
-    let here = sets::contains(v.set, e.me);
-    let there = sets::contains(v.set, q);
-    let needs = needs_slot(e, v);
-    let free = slots::free_in(tags) < 4;
-    let late = answers::first(3, !(heard.id < v.id), answers::first(7, needs & !free, 0));
-    ViewPlan {
-        number: answers::first(2, !(here & there), late),
-        needs,
-    }
-}
-
-fn take_view(mut e: EndPoint, q: u8, v: View) -> Answer
-    requires { q < 8 }
-    ensures { result ≡ settle (view_checks e q v) e (accepted (after_view e q v)) }
-{
-    let p = view_plan(e, q, v);
-    if p.number != 0 {
-        return answers::plain(e, p.number);
-    }
-    if p.needs {
-        let next = e.slots.taken(v);
-        e.slots = next;
-    }
-    e.heard[q as usize] = v;
-    e.received[q as usize] = 0;
-    answers::plain(e, 0)
-}
-
-fn word_plan(e: EndPoint, area: &[u64], q: u8, w: u64) -> WordPlan
-    requires { Receivable e area.now q }
-    ensures { result ≡ word_plan e area.now q w }
-{
-    let current = e.current;
-    let views = e.heard;
-    let counts = e.received;
-    let held = e.slots;
-    let tags = held.tags;
-    let rows = held.marks;
-    let heard = views[q as usize];
-    let n = counts[q as usize];
-    let spent = slots::spent(e.me, current, e.change.number, e.change.pending == 1, heard);
-    let slot = slots::slot_in(tags, heard);
-    let other = parts::other_word(slots::marks_in(rows, slot), area, slot, q, n + 1, w);
-    let full = answers::first(
-        6,
-        !spent & (n == 128),
-        answers::first(14, !spent & other, 0),
-    );
-    WordPlan {
-        number: answers::first(4, heard.id == 0, full),
-        stored: !spent,
-        slot,
-        index: n + 1,
-    }
-}
-
-fn take_word(e: EndPoint, area: &mut [u64], q: u8, w: u64) -> Answer
-    requires { Receivable e area.old q }
-    ensures { (result ≡ settle (word_checks e area.old q w) e (accepted (after_word e q))) × (area.new ≡ settle_area (word_checks e area.old q w) area.old (area_after_word e area.old q w)) }
-{
-    let p = word_plan(e, area, q, w);
-    if (p.number == 0) & p.stored {
-        let held = e.slots;
-        let next = held.mark(p.slot, q, p.index);
-        let mut counts = e.received;
-        counts[q as usize] = p.index;
-        let a = answers::keeps(e, p.number, next, counts);
-        let at = slots::place(p.slot, q, p.index);
-        area[at] = w;
-        return a;
-    }
-    answers::plain(e, p.number)
-}
-
-fn take_sync(mut e: EndPoint, q: u8, m: Message) -> Answer
-    ensures { result ≡ settle (sync_checks e q m) e (accepted (after_sync e q m)) }
-{
-    let here = sets::contains(m.view.set, q);
-    let newest = e.records.newest(q);
-    let number = answers::first(2, !here, answers::first(3, !(newest < m.number), 0));
-    if number != 0 {
-        return answers::plain(e, number);
-    }
-    let view = m.view;
-    let cut = m.cut;
-    let record = Record {
-        view,
-        cut,
-        number: m.number,
-    };
-    let next = e.records.store(q, record);
-    e.records = next;
-    answers::plain(e, 0)
-}
-
-fn forward_plan(e: EndPoint, area: &[u64], q: u8, m: Message) -> WordPlan
-    ensures { result ≡ forward_plan e area.now q m }
-{
-    let held = e.slots;
-    let tags = held.tags;
-    let rows = held.marks;
-    let here = sets::contains(m.view.set, e.me);
-    let there = sets::contains(m.view.set, q);
-    let of = sets::contains(m.view.set, m.sender);
-    let current = m.view.same(e.current);
-    let slot = slots::slot_in(tags, e.current);
-    let other = parts::other_word(
-        slots::marks_in(rows, slot),
-        area,
-        slot,
-        m.sender,
-        m.index,
-        m.word,
-    );
-    let absent = !(here & (there & (of & !(m.sender == e.me))));
-    WordPlan {
-        number: answers::first(2, absent, answers::first(14, current & other, 0)),
-        stored: current,
-        slot,
-        index: m.index,
-    }
-}
-
-fn take_forward(mut e: EndPoint, area: &mut [u64], q: u8, m: Message) -> Answer
-    requires m_value { unreceivable_of e area.old q m ≡ false }
-    requires kind { m.kind ≡ 4 }
-    ensures { (result ≡ settle (forward_checks e area.old q m) e (accepted (after_forward e m))) × (area.new ≡ settle_area (forward_checks e area.old q m) area.old (area_after_forward e area.old m)) }
-{
-    let p = forward_plan(e, area, q, m);
-    if p.number != 0 {
-        return answers::plain(e, p.number);
-    }
-    if !p.stored {
-        return answers::plain(e, 0);
-    }
-    let at = slots::place(p.slot, m.sender, p.index);
-    area[at] = m.word;
-    let next = e.slots.mark(p.slot, m.sender, p.index);
-    e.slots = next;
-    answers::plain(e, 0)
-}
-
 impl EndPoint {
-    // Receive from q. A refused message stays at the head of its channel. Words, the most frequent kind, are tested for first.
-    pub fn receive(self, area: &mut [u64], q: u8, m: Message) -> Answer
+    // What every message is asked first: gives the current view's slot, and the kind, which is one that a peer sends.
+    #[tactic(auto, unfolding(crate::specs::Receive::unreceivable))]
+    fn check_message(&self, area: &[u64], q: u8, m: Message) -> Result<(u8, Kind), Refusal>
+        ensures { MatchResult result (λ p. (unreceivable self.now area.now q m ≡ false) × Fits self.now area.now p.0 × (m.kind ≡ code_of p.1)) (λ r. (unreceivable self.now area.now q m ≡ true) × (number_of r ≡ 1)) }
+    {
+        let slot = self.fit(area)?;
+        if q > 7 || q == self.me || !m.well_formed() || m.kind > 4 {
+            return Err(Refusal::Unfit);
+        }
+        // A well formed message has a kind.
+        let Ok(kind) = m.named_kind() else {
+            unreachable!()
+        };
+        Ok((slot, kind))
+    }
+
+    // The view that q announced last.
+    fn announced(&self, q: u8) -> View
+        requires { q < 8 }
+        ensures { result ≡ heard_from self.now q }
+    {
+        self.heard[q as usize]
+    }
+
+    // Whether a view has no slot and needs one.
+    #[tactic(auto, using(slots::proofs::Tags::slot_in_lem), unfolding(crate::specs::Receive::needs_slot, crate::specs::Spent::spent, slots::specs::Slots::has_slot))]
+    fn needs_slot(&self, v: View) -> bool
+        ensures { result ≡ needs_of self.now v }
+    {
+        !v.same(self.current) && !self.standing().has_spent(v) && self.slots.slot_of(v).is_none()
+    }
+
+    #[tactic(auto, using(slots::proofs::Tags::free_in_lem), unfolding(crate::specs::Numbers::verdict, crate::specs::Receive::view_checks, crate::specs::Receive::after_view, slots::specs::Slots::has_free))]
+    fn take_view(&mut self, q: u8, v: View) -> Result<(), Refusal>
+        requires { q < 8 }
+        ensures { Changes (view_checks self.old q v) self.old (after_view self.old q v) self.new result }
+    {
+        if !sets::contains(v.set, self.me) || !sets::contains(v.set, q) {
+            return Err(Refusal::Absent);
+        }
+        if v.id <= self.announced(q).id {
+            return Err(Refusal::NotNewer);
+        }
+        if self.needs_slot(v) {
+            if self.slots.free_slot().is_none() {
+                return Err(Refusal::NoFreeSlot);
+            }
+            self.slots.take(v);
+        }
+        self.heard[q as usize] = v;
+        self.received[q as usize] = 0;
+        Ok(())
+    }
+
+    // Where q's next word stands: nowhere if the view it is sent in is spent.
+    #[tactic(auto, using(slots::proofs::Tags::slot_in_lem, slots::proofs::Places::place_low), unfolding(crate::specs::Numbers::verdict, crate::specs::Receive::word_checks, crate::specs::Receive::live, crate::specs::Receive::next_word, crate::specs::Spent::spent, crate::specs::Receive::other_word, slots::specs::Slots::held_word, slots::specs::Slots::marks_at))]
+    fn word_place(&self, area: &[u64], q: u8, w: u64) -> Result<Option<Place>, Refusal>
+        requires { Receivable self.now area.now q }
+        ensures judged { Judged (word_checks self.now area.now q w) (cond (live self.now q) (Some (record { slot = slot_of self.now.slots (heard_from self.now q); index = next_word self.now q })) None) result }
+        ensures within { IfOk result (λ o. IfSome o (λ p. place p.slot q p.index < length area.now)) }
+    {
+        let heard = self.announced(q);
+        if heard.id == 0 {
+            return Err(Refusal::OutOfTurn);
+        }
+        if self.standing().has_spent(heard) {
+            return Ok(None);
+        }
+        let received = self.received[q as usize];
+        if received == 128 {
+            return Err(Refusal::Full);
+        }
+        let index = received + 1;
+        // A view that is neither initial nor spent has a slot.
+        let Some(slot) = self.slots.slot_of(heard) else {
+            unreachable!()
+        };
+        let marks = self.slots.marks_in(slot);
+        if parts::other_word(&marks, area, slot, q, index, w) {
+            return Err(Refusal::AnotherWord);
+        }
+        Ok(Some(Place { slot, index }))
+    }
+
+    #[tactic(auto, unfolding(crate::specs::Receive::after_word, crate::specs::Receive::area_after_word, crate::specs::Receive::store_word, crate::specs::Receive::store_area, slots::specs::Slots::mark_word, slots::specs::Slots::mark_in))]
+    fn take_word(&mut self, area: &mut [u64], q: u8, w: u64) -> Result<(), Refusal>
+        requires { Receivable self.old area.old q }
+        ensures ep { Changes (word_checks self.old area.old q w) self.old (after_word self.old q) self.new result }
+        ensures area { Changes (word_checks self.old area.old q w) area.old (area_after_word self.old area.old q w) area.new result }
+    {
+        if let Some(place) = self.word_place(area, q, w)? {
+            area[slots::place(place.slot, q, place.index)] = w;
+            self.slots.mark(place.slot, q, place.index);
+            self.received[q as usize] = place.index;
+        }
+        Ok(())
+    }
+
+    #[tactic(auto, unfolding(crate::specs::Numbers::verdict, crate::specs::Receive::sync_checks, crate::specs::Receive::after_sync))]
+    fn take_sync(&mut self, q: u8, m: Message) -> Result<(), Refusal>
+        ensures { Changes (sync_checks self.old q m) self.old (after_sync self.old q m) self.new result }
+    {
+        if !sets::contains(m.view.set, q) {
+            return Err(Refusal::Absent);
+        }
+        if m.number <= self.records.newest(q) {
+            return Err(Refusal::NotNewer);
+        }
+        let record = Record {
+            view: m.view,
+            cut: m.cut,
+            number: m.number,
+        };
+        self.records.store(q, record);
+        Ok(())
+    }
+
+    #[tactic(auto, using(slots::proofs::Places::place_low), unfolding(crate::specs::Numbers::verdict, crate::specs::Receive::forward_checks, crate::specs::Receive::other_word, crate::specs::Receive::after_forward, crate::specs::Receive::area_after_forward, crate::specs::Receive::store_word, crate::specs::Receive::store_area, slots::specs::Slots::mark_word, slots::specs::Slots::mark_in, slots::specs::Slots::held_word, slots::specs::Slots::marks_at))]
+    fn take_forward(&mut self, area: &mut [u64], slot: u8, q: u8, m: Message) -> Result<(), Refusal>
+        requires fits { Fits self.old area.old slot }
+        requires word { (m.sender < 8) × (1 ≤ m.index) × (m.index ≤ 128) }
+        ensures ep { Changes (forward_checks self.old area.old q m) self.old (after_forward self.old m) self.new result }
+        ensures area { Changes (forward_checks self.old area.old q m) area.old (area_after_forward self.old area.old m) area.new result }
+    {
+        let view = m.view;
+        let own = m.sender == self.me;
+        if !sets::contains(view.set, self.me)
+            || !sets::contains(view.set, q)
+            || !sets::contains(view.set, m.sender)
+            || own
+        {
+            return Err(Refusal::Absent);
+        }
+        if !view.same(self.current) {
+            return Ok(());
+        }
+        let marks = self.slots.marks_in(slot);
+        if parts::other_word(&marks, area, slot, m.sender, m.index, m.word) {
+            return Err(Refusal::AnotherWord);
+        }
+        area[slots::place(slot, m.sender, m.index)] = m.word;
+        self.slots.mark(slot, m.sender, m.index);
+        Ok(())
+    }
+
+    // Receive in place. Not inlined: the end-point is then copied into the answer once, and a receive takes two thirds of the time.
+    #[tactic(auto, unfolding(crate::specs::Numbers::verdict, crate::specs::Receive::receive_checks))]
+    #[inline(never)]
+    fn take(&mut self, area: &mut [u64], q: u8, m: Message) -> Result<(), Refusal>
+        ensures ep { Changes (receive_checks self.old area.old q m) self.old (after_receive self.old q m) self.new result }
+        ensures area { Changes (receive_checks self.old area.old q m) area.old (area_after_receive self.old area.old q m) area.new result }
+    {
+        let (slot, kind) = self.check_message(area, q, m)?;
+        match kind {
+            Kind::View => self.take_view(q, m.view),
+            Kind::Word => self.take_word(area, q, m.word),
+            Kind::Sync => self.take_sync(q, m),
+            _ => self.take_forward(area, slot, q, m),
+        }
+    }
+
+    // Receive from q. A refused message stays at the head of its channel.
+    #[tactic(auto, unfolding(crate::specs::Opened::stepped))]
+    pub fn receive(mut self, area: &mut [u64], q: u8, m: Message) -> Answer
         ensures { (result ≡ step (receive_of q m) self area.old) × (area.new ≡ area_after (receive_of q m) self area.old) }
     {
-        let ok = sound::sound(self);
-        if unreceivable(self, ok, area, q, m) {
-            return answers::plain(self, 1);
-        }
-        if m.kind == 2 {
-            return take_word(self, area, q, m.word);
-        }
-        if m.kind == 1 {
-            return take_view(self, q, m.view);
-        }
-        if m.kind == 3 {
-            return take_sync(self, q, m);
-        }
-        take_forward(self, area, q, m)
+        let outcome = self.take(area, q, m);
+        self.answer(outcome.map(|()| Given::nothing()))
     }
 }

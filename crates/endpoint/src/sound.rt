@@ -1,103 +1,98 @@
 // Whether an end-point is sound, in one pass over it, and whether a lent area is of the right length.
-ghost use Rattle.std.specs.Prelude.{not, ◌||◌, ◌≡◌, eqb, length};
-ghost use Rattle.endpoint.specs.Pass.{flags_fit, words_fit, views_sound};
+ghost use Rattle.std.specs.Prelude.{true, cond, Some, None, ◌≡◌, MatchResult};
+ghost use Rattle.slots.specs.Slots.{slot_of};
+ghost use Rattle.endpoint.specs.Application.{unfit};
+ghost use Rattle.endpoint.specs.Pass.{flags_fit, words_fit, views_sound, Fits};
+ghost use Rattle.endpoint.specs.Refusals.{number_of};
 ghost use Rattle.endpoint.specs.Sound.{sound as sound_of};
+ghost use Rattle.endpoint.specs.State.{is_pending};
 
+use crate::refusal::Refusal;
 use crate::{Change, EndPoint};
-use slots::Slots;
-use views::{View, sets};
+use slots::Standing;
+use views::sets;
 
-fn flags_fit(change: Change, told: u8) -> bool
-    ensures { result ≡ flags_fit change told }
-{
-    (change.opened <= 1) & ((change.pending <= 1) & ((change.block <= 2) & (told <= 1)))
-}
-
-// What is asked of the words: the slots, the current view's own, the counts of what was given and passed out.
-fn words_fit(
-    me: u8,
-    current: View,
-    latest: u32,
-    pending: bool,
-    held: Slots,
-    given: &[u8; 8],
-    passed: u8,
-) -> bool
-    ensures { result ≡ words_fit me current latest pending held given.now passed }
-{
-    let tags = held.tags;
-    let rows = held.marks;
-    let s = slots::slot_in(tags, current);
-    let m = slots::marks_in(rows, s);
-    let fit = held.fit(me, current, latest, pending);
-    let within = parts::given_fit(given, m);
-    let own = marks::run_in(m, me);
-    fit & ((s < 4) & (within & (passed <= own)))
-}
-
-// What is asked of the flags and of the views that it is in.
-fn views_sound(me: u8, change: Change, told: u8, current: View, membership: View) -> bool
-    ensures { result ≡ views_sound me change told current membership }
-{
-    let flags = flags_fit(change, told);
-    let formed = current.well_formed();
-    let next = membership.well_formed();
-    let here = sets::contains(current.set, me);
-    let there = sets::contains(membership.set, me);
-    (me <= 7) & (flags & (formed & (next & (here & there))))
-}
-
-// Each part is read by itself: with one reference into it, all of the end-point would be copied once more.
-pub(crate) fn sound(e: EndPoint) -> bool
-    ensures { result ≡ sound_of e }
-{
-    let change = e.change;
-    let pending = change.pending == 1;
-    let current = e.current;
-    let membership = e.membership;
-    let held = e.slots;
-    let tags = held.tags;
-    let heard = e.heard;
-    let received = e.received;
-    let records = e.records;
-    let rows = e.forwarded;
-    let given = e.given;
-    let views = views_sound(e.me, change, e.told, current, membership);
-    let told = parts::others_fit(
-        e.me,
-        current,
-        change.number,
-        pending,
-        tags,
-        heard,
-        &received,
-    );
-    let recorded = records.fit(e.me, change.number);
-    let marked = parts::rows_fit(rows);
-    let words = words_fit(
-        e.me,
-        current,
-        change.number,
-        pending,
-        held,
-        &given,
-        e.passed,
-    );
-    views & ((told & (recorded & marked)) & words)
-}
-
-// What every step that takes the word area asks first, of an end-point that is sound or not.
-pub(crate) fn unfit(ok: bool, area: &[u64]) -> bool
-    ensures { result ≡ (not ok || not (eqb (length area.now) 4096)) }
-{
-    !ok | !(area.len() == 4096)
+impl Change {
+    // Whether the flags are in their ranges, with the one of the current view's announcement.
+    fn flags_fit(self, told: u8) -> bool
+        ensures { result ≡ flags_fit self told }
+    {
+        self.opened <= 1 && self.pending <= 1 && self.block <= 2 && told <= 1
+    }
 }
 
 impl EndPoint {
-    // Whether the end-point is sound: every step gives 1 on one that is not.
-    pub fn sound(self) -> bool
-        ensures { result ≡ sound_of self }
+    // What its views are held against.
+    pub(crate) fn standing(&self) -> Standing
+        ensures { result ≡ record { me = self.now.me; current = self.now.current; latest = self.now.change.number; pending = is_pending self.now } }
     {
-        sound(self)
+        Standing {
+            me: self.me,
+            current: self.current,
+            latest: self.change.number,
+            pending: self.change.pending == 1,
+        }
+    }
+
+    // What is asked of the flags and of the views that it is in.
+    #[tactic(auto, unfolding(crate::specs::Pass::views_sound))]
+    fn views_sound(&self) -> bool
+        ensures { result ≡ views_sound self.now.me self.now.change self.now.told self.now.current self.now.membership }
+    {
+        let formed = self.current.well_formed() && self.membership.well_formed();
+        let here = sets::contains(self.current.set, self.me);
+        let there = sets::contains(self.membership.set, self.me);
+        self.me <= 7 && self.change.flags_fit(self.told) && formed && here && there
+    }
+
+    // The current view's slot, if the words are as sound asks: the slots, the current view's own, the counts of what was given and passed out.
+    #[tactic(auto, using(slots::proofs::Tags::slot_in_lem), unfolding(crate::specs::Pass::words_fit))]
+    fn words_slot(&self) -> Option<u8>
+        ensures { result ≡ cond (words_fit self.now.me self.now.current self.now.change.number (is_pending self.now) self.now.slots self.now.given self.now.passed) (Some (slot_of self.now.slots self.now.current)) None }
+    {
+        if !self.slots.fit(&self.standing()) {
+            return None;
+        }
+        let slot = self.slots.slot_of(self.current)?;
+        let marks = self.slots.marks_in(slot);
+        if !parts::given_fit(&self.given, &marks) || marks.run(self.me) < self.passed {
+            return None;
+        }
+        Some(slot)
+    }
+
+    // The current view's slot, if the end-point is sound.
+    #[tactic(auto, using(crate::proofs::Passing::sound_passed))]
+    fn sound_slot(&self) -> Option<u8>
+        ensures { result ≡ cond (sound_of self.now) (Some (slot_of self.now.slots self.now.current)) None }
+    {
+        if !self.views_sound() {
+            return None;
+        }
+        if !parts::others_fit(&self.standing(), &self.slots, &self.heard, &self.received) {
+            return None;
+        }
+        if !self.records.fit(self.me, self.change.number) || !parts::rows_fit(&self.forwarded) {
+            return None;
+        }
+        self.words_slot()
+    }
+
+    // Whether the end-point is sound: every step gives 1 on one that is not.
+    pub fn sound(&self) -> bool
+        ensures { result ≡ sound_of self.now }
+    {
+        self.sound_slot().is_some()
+    }
+
+    // What every step that takes the word area asks first: gives the current view's slot.
+    #[tactic(auto, using(crate::proofs::Planning::fits), unfolding(crate::specs::Application::unfit))]
+    pub(crate) fn fit(&self, area: &[u64]) -> Result<u8, Refusal>
+        ensures { MatchResult result (λ s. Fits self.now area.now s) (λ r. (unfit self.now area.now ≡ true) × (number_of r ≡ 1)) }
+    {
+        if area.len() != 4096 {
+            return Err(Refusal::Unfit);
+        }
+        self.sound_slot().ok_or(Refusal::Unfit)
     }
 }

@@ -28,6 +28,10 @@ module _ (h : Held) where
   unfolding held_at is_word
   held_zero = refl
 
+  pub held_under : (i : ℕ) → i < 1 → held_at h i ≡ false
+  held_under zero l = held_zero
+  held_under (suc i) l = absurd (omega arith)
+
   pub held_low : (i : ℕ) → 1 ≤ i → i ≤ 64 → held_at h i ≡ bit h.low (i - 1)
   unfolding held_at is_word
   held_low i a b = rw (le-leb 1 i a, le-leb i 128 (omega arith), le-leb i 64 b)
@@ -43,6 +47,10 @@ module _ (h : Held) where
   pub marked_zero : marked h 0 ≡ h
   unfolding marked is_word
   marked_zero = refl
+
+  pub marked_under : (i : ℕ) → i < 1 → marked h i ≡ h
+  marked_under zero l = marked_zero
+  marked_under (suc i) l = absurd (omega arith)
 
   pub marked_low : (i : ℕ) → 1 ≤ i → i ≤ 64 → marked h i ≡ record { low = with_bit h.low (i - 1); high = h.high }
   unfolding marked is_word

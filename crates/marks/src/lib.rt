@@ -25,6 +25,7 @@ pub struct Marks {
 }
 
 // Bit k of x is set.
+#[tactic(auto, unfolding(below::specs::Bits::bit))]
 fn bit_at(x: u64, k: u8) -> bool
     requires { k < 64 }
     ensures { result ≡ bit x k }
@@ -37,7 +38,7 @@ fn with_bit(x: u64, k: u8) -> u64
     requires { k < 64 }
     ensures { result ≡ with_bit x k }
 {
-    (1u64 << k) | x
+    (1 << k) | x
 }
 
 // How many of the lowest bits are set, up to the first that is not.
@@ -45,7 +46,7 @@ fn low_run(x: u64) -> u8
     ensures value { result ≡ run_below (bit x) 64 }
     ensures within { result ≤ 64 }
 {
-    u64::trailing_zeros(!x) as u8
+    x.trailing_ones() as u8
 }
 
 // No bit from k on is set. No shift by 64 is allowed, so that end is apart.
@@ -53,128 +54,116 @@ fn none_from(x: u64, k: u8) -> bool
     requires { k ≤ 64 }
     ensures { result ≡ none_from (bit x) k 64 }
 {
-    if 64 <= k {
-        return true;
+    64 <= k || (x >> k) == 0
+}
+
+impl Held {
+    // No word is held.
+    pub fn none() -> Held
+        ensures { result ≡ none_held }
+    {
+        Held { low: 0, high: 0 }
     }
-    (x >> k) == 0
-}
 
-// No word is held.
-pub fn none() -> Held
-    ensures { result ≡ none_held }
-{
-    Held { low: 0, high: 0 }
-}
+    // Word i is held; false where there is no word i.
+    #[tactic(auto, using(crate::proofs::Packing::held_under, crate::proofs::Packing::held_low, crate::proofs::Packing::held_high, crate::proofs::Packing::held_out))]
+    pub fn holds(self, i: u8) -> bool
+        ensures { result ≡ held_at self i }
+    {
+        match i {
+            1..=64 => bit_at(self.low, i - 1),
+            65..=128 => bit_at(self.high, i - 65),
+            _ => false,
+        }
+    }
 
-// Word i is held; false where there is no word i.
-#[tactic(auto, using(crate::proofs::Packing::held_zero, crate::proofs::Packing::held_low, crate::proofs::Packing::held_high, crate::proofs::Packing::held_out))]
-pub fn is_held(h: Held, i: u8) -> bool
-    ensures { result ≡ held_at h i }
-{
-    if i == 0 {
-        false
-    } else if i <= 64 {
-        bit_at(h.low, i - 1)
-    } else if i <= 128 {
-        bit_at(h.high, i - 65)
-    } else {
-        false
+    // Word i held besides; as it was where there is no word i.
+    #[tactic(auto, using(crate::proofs::Packing::marked_under, crate::proofs::Packing::marked_low, crate::proofs::Packing::marked_high, crate::proofs::Packing::marked_out))]
+    pub fn mark(&mut self, i: u8)
+        ensures { self.new ≡ marked self.old i }
+    {
+        match i {
+            1..=64 => self.low = with_bit(self.low, i - 1),
+            65..=128 => self.high = with_bit(self.high, i - 65),
+            _ => {}
+        }
+    }
+
+    // The longest k with words 1 to k all held.
+    pub fn run(self) -> u8
+        ensures value { result ≡ run_of self }
+        ensures within { result ≤ 128 }
+    {
+        let n = low_run(self.low);
+        if n < 64 { n } else { 64 + low_run(self.high) }
+    }
+
+    // No word beyond the run is held.
+    pub fn has_no_gap(self) -> bool
+        ensures { result ≡ no_gap self }
+    {
+        let n = self.run();
+        if n < 64 {
+            self.high == 0 && none_from(self.low, n)
+        } else {
+            none_from(self.high, n - 64)
+        }
     }
 }
 
-// With word i held besides; as it was where there is no word i.
-#[tactic(auto, using(crate::proofs::Packing::marked_zero, crate::proofs::Packing::marked_low, crate::proofs::Packing::marked_high, crate::proofs::Packing::marked_out))]
-pub fn mark(mut h: Held, i: u8) -> Held
-    ensures { result ≡ marked h i }
-{
-    if i == 0 {
-        return h;
+impl Marks {
+    // No word of any sender is held.
+    pub fn none() -> Marks
+        ensures { result ≡ no_marks }
+    {
+        Marks {
+            rows: [Held::none(); 8],
+        }
     }
-    if i <= 64 {
-        h.low = with_bit(h.low, i - 1);
-        return h;
+
+    // The row of sender r; nothing held past the last row.
+    #[tactic(auto, unfolding(crate::specs::Marks::row_of))]
+    fn row(&self, r: u8) -> Held
+        ensures { result ≡ row_of self.now r }
+    {
+        self.rows
+            .get(usize::from(r))
+            .copied()
+            .unwrap_or(Held::none())
     }
-    if i <= 128 {
-        h.high = with_bit(h.high, i - 65);
+
+    // Word i of sender r is held; false for r above 7.
+    #[tactic(auto, unfolding(crate::specs::Marks::held_in))]
+    pub fn holds(&self, r: u8, i: u8) -> bool
+        ensures { result ≡ held_in self.now r i }
+    {
+        self.row(r).holds(i)
     }
-    h
-}
 
-// The longest k with words 1 to k all held.
-pub fn run(h: Held) -> u8
-    ensures value { result ≡ run_of h }
-    ensures within { result ≤ 128 }
-{
-    let n = low_run(h.low);
-    if n < 64 {
-        return n;
+    // The run of sender r; 0 for r above 7, as `run_in` has it.
+    #[tactic(auto, unfolding(crate::specs::Marks::run_in))]
+    pub fn run(&self, r: u8) -> u8
+        ensures value { result ≡ run_in self.now r }
+        ensures within { result ≤ 128 }
+    {
+        self.row(r).run()
     }
-    64 + low_run(h.high)
-}
 
-// No word beyond the run is held.
-pub fn no_gap(h: Held) -> bool
-    ensures { result ≡ no_gap h }
-{
-    let n = run(h);
-    if 64 <= n {
-        return none_from(h.high, n - 64);
+    // The held words of sender r have no gap from word 1; true for r above 7.
+    #[tactic(auto, unfolding(crate::specs::Marks::no_gap_in))]
+    pub fn has_no_gap(&self, r: u8) -> bool
+        ensures { result ≡ no_gap_in self.now r }
+    {
+        self.row(r).has_no_gap()
     }
-    if h.high != 0 {
-        return false;
+
+    // Word i of sender r held besides; as it was for r above 7, or where there is no word i.
+    #[tactic(auto, using(crate::proofs::Slot::marks_past, crate::proofs::Slot::array_length), unfolding(crate::specs::Marks::marked_in, crate::specs::Marks::row_of))]
+    pub fn mark(&mut self, r: u8, i: u8)
+        ensures { self.new ≡ marked_in self.old r i }
+    {
+        if r < 8 {
+            self.rows[r as usize].mark(i);
+        }
     }
-    none_from(h.low, n)
-}
-
-// No word of any sender is held.
-pub fn cleared() -> Marks
-    ensures { result ≡ no_marks }
-{
-    let row = none();
-    let rows = [row; 8];
-    Marks { rows }
-}
-
-// The row of sender r; nothing held past the last row.
-fn row_of(m: Marks, r: u8) -> Held
-    ensures { result ≡ row_of m r }
-{
-    if 8 <= r {
-        return none();
-    }
-    m.rows[r as usize]
-}
-
-// Word i of sender r is held; false for r above 7.
-pub fn holds(m: Marks, r: u8, i: u8) -> bool
-    ensures { result ≡ held_in m r i }
-{
-    is_held(row_of(m, r), i)
-}
-
-// The run of sender r; 0 for r above 7.
-pub fn run_in(m: Marks, r: u8) -> u8
-    ensures value { result ≡ run_in m r }
-    ensures within { result ≤ 128 }
-{
-    run(row_of(m, r))
-}
-
-// The held words of sender r have no gap from word 1; true for r above 7.
-pub fn no_gap_in(m: Marks, r: u8) -> bool
-    ensures { result ≡ no_gap_in m r }
-{
-    no_gap(row_of(m, r))
-}
-
-// With word i of sender r held besides; as it was for r above 7, or where there is no word i.
-#[tactic(auto, using(crate::proofs::Slot::marks_past, crate::proofs::Slot::array_length), unfolding(crate::specs::Marks::marked_in, crate::specs::Marks::row_of))]
-pub fn mark_in(mut m: Marks, r: u8, i: u8) -> Marks
-    ensures { result ≡ marked_in m r i }
-{
-    if r < 8 {
-        let next = mark(m.rows[r as usize], i);
-        m.rows[r as usize] = next;
-    }
-    m
 }

@@ -1,14 +1,13 @@
 -- The six kinds one by one, as the reader's and the writer's arms have them: the length, the message read, its tests, the body stored.
 -- Assumes nothing. That reading and writing are inverse is in Trip, by one argument for all kinds.
-use Prim.Native.Nat.{ℕ, zero, suc, ◌+◌, ◌≤◌}
+use Prim.Native.Nat.{ℕ, ◌+◌, ◌≤◌}
 use native.Mathlib.Omega.{arith}
 use mathlib.Core.Bool.{true, ◌&&◌, and-true}
-use mathlib.Core.List.{List, [], ◌++◌, append-nil}
-use mathlib.Core.Logic.{◌⊎◌, ⊎_elim}
+use mathlib.Core.List.{List, [], ◌∷◌, ◌++◌, append-nil}
+use mathlib.Core.Logic.{◌⊎◌, inl, inr, ⊎_elim}
 use mathlib.Core.Path.{◌≡◌, refl, sym, ap, ◌∙◌}
-use lib.ListN.{length}
+use lib.ListN.{length, get_or-eq_default}
 use lib.Seq.{sets}
-use borrow.Author.Tests.{ne_eqb}
 use Rattle.below.specs.Below.{all_below}
 use Rattle.below.specs.Bits.{bit}
 use Rattle.views.specs.Sets.{has}
@@ -17,37 +16,27 @@ use Rattle.views.specs.Cuts.{cut_ok}
 use Rattle.views.specs.declared.View.{View}
 use Rattle.views.specs.declared.Cut.{Cut}
 use Rattle.messages.specs.declared.Message.{Message}
+use Rattle.messages.specs.declared.kind.Kind.{Kind}
+use Rattle.messages.specs.declared.kind.Kind.TheVariants.{View as ViewKind, MembershipView}
+use Rattle.messages.specs.Kinds.{code_of, NoKind}
 use Rattle.messages.specs.Bytes.{le, number_at, view_body, view_at, cut_bytes, cut_at}
-use Rattle.messages.specs.Messages.{blank, of_view, of_word, of_sync, of_forward, of_start_change}
+use Rattle.messages.specs.Messages.{of_view, of_word, of_sync, of_forward, of_start_change}
 use Rattle.messages.specs.Layouts.{place_fits, blank_view, body, length_of, fields_fit, well_formed}
 use Rattle.messages.specs.Codec.{message_at}
 use Rattle.messages.proofs.Numbers.{le_length, view_length}
 use Rattle.messages.proofs.Stores.{sets_join}
 
--- k is none of the kinds
-abbrev pub NoKind : ℕ → Type 0
-NoKind k = (k ≡ 1 → ⊥) × ((k ≡ 2 → ⊥) × ((k ≡ 3 → ⊥) × ((k ≡ 4 → ⊥) × ((k ≡ 5 → ⊥) × (k ≡ 6 → ⊥)))))
-
 -- ---- lengths
-
-pub length_is : (k j n : ℕ) → k ≡ j → n ≡ length_of j → n ≡ length_of k
-length_is k j n e p = rw e p
 
 pub length_none : (k : ℕ) → NoKind k → 0 ≡ length_of k
 unfolding length_of
-length_none zero h = refl
-length_none (suc zero) h = absurd (h.0 refl)
-length_none (suc (suc zero)) h = absurd (h.1.0 refl)
-length_none (suc (suc (suc zero))) h = absurd (h.1.1.0 refl)
-length_none (suc (suc (suc (suc zero)))) h = absurd (h.1.1.1.0 refl)
-length_none (suc (suc (suc (suc (suc zero))))) h = absurd (h.1.1.1.1.0 refl)
-length_none (suc (suc (suc (suc (suc (suc zero)))))) h = absurd (h.1.1.1.1.1 refl)
-length_none (suc (suc (suc (suc (suc (suc (suc k))))))) h = refl
+length_none k h = sym (⊎_elim (λ e. rw e refl) (λ l. get_or-eq_default (0 ∷ 38 ∷ 9 ∷ 50 ∷ 48 ∷ 6 ∷ 38 ∷ []) 0 {n = k} l) h)
+
+-- the two kinds that have a view alone
+pub view_kinds : (kind : Kind) → (kind ≡ ViewKind) ⊎ (kind ≡ MembershipView) → (code_of kind ≡ 1) ⊎ (code_of kind ≡ 6)
+view_kinds kind e = ⊎_elim (λ p. inl (ap code_of p)) (λ p. inr (ap code_of p)) e
 
 -- the room that a kind has
-pub room : (k j n : ℕ) → k ≡ j → length_of k ≤ n → length_of j ≤ n
-room k j n e h = rw e at h
-
 pub room_of : (k j n : ℕ) → k ≡ j → n ≡ length_of k → length_of j ≤ n
 room_of k j n e h = rw (h, e) (omega arith)
 
@@ -80,10 +69,6 @@ module _ (bs : List ℕ) (k : ℕ) (r : Message) where
 
   pub at_views : (v : View) → (k ≡ 1) ⊎ (k ≡ 6) → v ≡ view_at bs 1 → r ≡ of_view k v → r ≡ message_at bs k
   at_views v e p q = ⊎_elim (λ t. at_view v t p (rw t at q)) (λ t. at_membership v t p (rw t at q)) e
-
-  pub at_none : NoKind k → r ≡ blank k → r ≡ message_at bs k
-  unfolding message_at
-  at_none h q = rw (ne_eqb k 1 h.0, ne_eqb k 2 h.1.0, ne_eqb k 3 h.1.1.0, ne_eqb k 4 h.1.1.1.0, ne_eqb k 5 h.1.1.1.1.0, ne_eqb k 6 h.1.1.1.1.1) q
 
 -- ---- well formed: only the parts that the kind has are tested
 
@@ -149,7 +134,3 @@ module _ (m : Message) (l : List ℕ) where
   pub stored_start_change : (a b : List ℕ) → m.kind ≡ 5 → a ≡ sets l 1 (le 4 m.number) → b ≡ sets a 5 (le 1 m.set) → b ≡ sets l 1 (body m)
   unfolding body
   stored_start_change a b e p q = rw e (behind (le 4 m.number) (le 1 m.set) l a b 1 5 (rw (le_length 4 m.number) refl) p q)
-
-  pub stored_none : NoKind m.kind → l ≡ sets l 1 (body m)
-  unfolding body
-  stored_none h = rw (ne_eqb m.kind 1 h.0, ne_eqb m.kind 2 h.1.0, ne_eqb m.kind 3 h.1.1.0, ne_eqb m.kind 4 h.1.1.1.0, ne_eqb m.kind 5 h.1.1.1.1.0, ne_eqb m.kind 6 h.1.1.1.1.1) refl

@@ -2,27 +2,33 @@
 use Prim.Native.Nat.{ℕ, ◌+◌, ◌%◌, ◌^◌, ◌≤◌, ◌<◌}
 use native.Mathlib.Nat.{mod-eq_of_lt}
 use native.Mathlib.Omega.{arith}
-use mathlib.Core.Bool.{Bool, true, false, not, cond, ◌&&◌}
+use mathlib.Core.Bool.{Bool, true, false, cond, ◌&&◌}
 use mathlib.Core.List.{List}
-use mathlib.Core.Logic.{◌⊎◌, ⊎_elim}
+use mathlib.Core.Logic.{⊎_elim}
 use mathlib.Core.Path.{◌≡◌, refl, sym, ap, ◌∙◌}
 use lib.Dec.{eqb, ltb, leb}
 use lib.ListN.{length, get_or}
 use lib.Seq.{sets}
-use borrow.Author.Tests.{eqb-true, ltb-true, lt-ltb, leb-true, le-leb}
+use borrow.Author.Tests.{eq-eqb, eqb-true, ltb-true, lt-ltb, leb-true, le-leb}
 use Rattle.below.specs.Below.{all_below, join_below, list_below}
 use Rattle.below.specs.Bits.{bit}
 use Rattle.below.proofs.All.{all_each, all_of}
-use Rattle.below.proofs.Tests.{and_both, and_left, and_right, both, told_not, told_so}
+use Rattle.below.proofs.Tests.{and_both, and_left, and_right, both}
 use Rattle.views.specs.Sets.{has}
 use Rattle.views.specs.Views.{all_zero, view_ok}
 use Rattle.views.specs.Cuts.{cut_ok}
 use Rattle.messages.specs.Bytes.{le}
 use Rattle.messages.specs.Layouts.{has_number, has_place, has_view, has_cut, has_set, place_fits, blank_view, word_fits, body, length_of, fields_fit, well_formed}
-use Rattle.messages.specs.Fields.{narrow_starts, narrow_counts, narrow_bytes, narrow, message_of, number_written, area_written}
+use Rattle.messages.specs.Fields.{narrow_starts, narrow_counts, narrow_bytes, narrow, is_row, message_of}
 use Rattle.messages.specs.Fits.{below_or_zero, numbers_fit, zero_row, cut_fields_fit, narrow_view, view_fields_fit, fields_are}
 use Rattle.messages.proofs.Tested.{PartsFit, parts_fit, write_whole}
-use Rattle.messages.proofs.Rows.{Narrow, narrow_each, write_row, unwritten_malformed}
+use Rattle.messages.proofs.Rows.{Narrow, narrow_each, write_row, unwritten_malformed, unwritten_short}
+use Rattle.messages.specs.declared.Refusal.TheVariants.{Malformed, NoRoom}
+use Rattle.messages.specs.declared.kind.Kind.{Kind}
+use Rattle.messages.specs.declared.kind.Kind.TheVariants.{View as ViewKind, Word, Sync, Forward, StartChange, MembershipView}
+use Rattle.messages.specs.Kinds.{code_of}
+use Rattle.messages.specs.Refusals.{IsTestedAs, Fits, IsWritten}
+use Rattle.std.specs.Prelude.{Ok, Err}
 
 -- ---- a number
 
@@ -142,45 +148,58 @@ module _ (fs : List ℕ) where
       (and_both (of_low (has_number k) (get_or fs 1 0) (2 ^ 32) (lt-ltb (get_or fs 1 0) (2 ^ 32) a.number_low) f.number_fit) (and_both f.place_fit (and_both f.word_fit (of_low (has_set k) (get_or fs 2 0) 256 (lt-ltb (get_or fs 2 0) 256 a.set_low) f.set_fit))))
       (and_both (of_cut fs (has_cut k) a.view_set_low (counts_narrow a) f.cut_fit) (of_view_lem fs (has_view k) (view_narrow a) f.view_fit))
 
--- the fields' kind is one of the six, and is tested as kind j is
-pub record Tested (fs : List ℕ) (j : ℕ) : Type 0 where
-  pub low : 1 ≤ get_or fs 0 0
-  pub high : get_or fs 0 0 ≤ 6
-  pub alike : fields_are fs j ≡ fields_are fs (get_or fs 0 0)
+-- ---- the fields' kind k, tested as another kind is
 
-pub tested : (fs : List ℕ) (j : ℕ) → get_or fs 0 0 ≡ j → 1 ≤ j → j ≤ 6 → Tested fs j
-tested fs j e p q = record { low = omega arith; high = omega arith; alike = ap (fields_are fs) (sym e) }
+code_range : (kind : Kind) → (1 ≤ code_of kind) × (code_of kind ≤ 6)
+code_range ViewKind = (omega arith, omega arith)
+code_range Word = (omega arith, omega arith)
+code_range Sync = (omega arith, omega arith)
+code_range Forward = (omega arith, omega arith)
+code_range StartChange = (omega arith, omega arith)
+code_range MembershipView = (omega arith, omega arith)
 
-pub tested_view : (fs : List ℕ) (k : ℕ) → get_or fs 0 0 ≡ k → (k ≡ 1) ⊎ (k ≡ 6) → Tested fs 1
-unfolding fields_are numbers_fit cut_fields_fit view_fields_fit
-tested_view fs k e o = ⊎_elim (λ q. tested fs 1 (e ∙ q) (omega arith) (omega arith)) six o
-  where
-    six : k ≡ 6 → Tested fs 1
-    six q = let z : get_or fs 0 0 ≡ 6 = e ∙ q in record { low = omega arith; high = omega arith; alike = rw z refl }
+module _ (fs : List ℕ) (kind : Kind) (t : IsTestedAs fs kind) where
+  tested_alike : fields_are fs (code_of kind) ≡ fields_are fs (get_or fs 0 0)
+  unfolding fields_are numbers_fit cut_fields_fit view_fields_fit
+  tested_alike = ⊎_elim (λ e. ap (fields_are fs) (sym e)) (λ q. rw (q.0, q.1) refl) t
 
--- ---- what the writer answers by its three tests a, b and c
+  tested_long : length_of (code_of kind) ≡ length_of (get_or fs 0 0)
+  unfolding length_of
+  tested_long = ⊎_elim (λ e. ap length_of (sym e)) (λ q. rw (q.0, q.1) refl) t
 
-module _ (fs : List ℕ) (j : ℕ) (t : Tested fs j) (a b c : Bool) (p : a ≡ numbers_fit fs j) (q : b ≡ cut_fields_fit fs j) (r : c ≡ view_fields_fit fs j) where
-  tests : (a && (b && c)) ≡ (narrow fs && well_formed (message_of fs))
-  unfolding fields_are
+  tests : fields_are fs (code_of kind) ≡ (narrow fs && well_formed (message_of fs))
   tests =
-      let e : (a && (b && c)) ≡ fields_are fs j = rw (p, q, r) refl in
-      e ∙ t.alike ∙ both (fields_are fs (get_or fs 0 0)) (narrow fs && well_formed (message_of fs)) (are_narrow fs t.low t.high) (narrow_are fs)
+      let l : 1 ≤ get_or fs 0 0 = ⊎_elim (λ e. rw e (code_range kind).0) (λ q. rw q.0 (omega arith)) t in
+      let h : get_or fs 0 0 ≤ 6 = ⊎_elim (λ e. rw e (code_range kind).1) (λ q. rw q.0 (omega arith)) t in
+      tested_alike ∙ both (fields_are fs (get_or fs 0 0)) (narrow fs && well_formed (message_of fs)) (are_narrow fs l h) (narrow_are fs)
 
-  pub unfit : (area : List ℕ) → length fs ≡ 24 → not (a && (b && c)) ≡ true → (1 ≡ number_written fs area) × (area ≡ area_written fs area)
-  unfit area l e = unwritten_malformed fs area l (told_not (a && (b && c)) (narrow fs && well_formed (message_of fs)) e tests)
+  module _ (area : List ℕ) (long : length fs ≡ 24) where
+    pub unfit : fields_are fs (code_of kind) ≡ false → IsWritten {T = Unit {0}} (Err Malformed) fs area area
+    unfolding is_row
+    unfit e =
+        let f : (narrow fs && well_formed (message_of fs)) ≡ false = sym tests ∙ e in
+        let p = unwritten_malformed fs area long f in
+        record { number = p.0; left = p.1; reason = rw (eq-eqb (length fs) 24 long, f) refl }
 
-  pub fit : not (a && (b && c)) ≡ false → (narrow fs && well_formed (message_of fs)) ≡ true
-  fit e = told_so (a && (b && c)) (narrow fs && well_formed (message_of fs)) e tests
+    pub unroomed : (n : ℕ) → fields_are fs (code_of kind) ≡ true → length area < n → n ≡ length_of (code_of kind) → IsWritten {T = Unit {0}} (Err NoRoom) fs area area
+    unfolding is_row
+    unroomed n e h q =
+        let f : (narrow fs && well_formed (message_of fs)) ≡ true = sym tests ∙ e in
+        let p = unwritten_short fs area n long h (q ∙ tested_long) in
+        record { number = p.0; left = p.1; reason = rw (eq-eqb (length fs) 24 long, f) refl }
+
+    pub fits : (n : ℕ) → fields_are fs (code_of kind) ≡ true → n ≤ length area → n ≡ length_of (code_of kind) → Fits fs kind area
+    fits n e h q = record { fit = sym tests ∙ e; room = rw q at h }
 
 -- what a message that fits says of its fields
 pub fit_low : (fs : List ℕ) → (narrow fs && well_formed (message_of fs)) ≡ true → Narrow fs
 fit_low fs e = narrow_each fs (and_left (narrow fs) (well_formed (message_of fs)) e)
 
-pub fit_written : (fs area : List ℕ) (k n : ℕ) (x y : List ℕ) → (narrow fs && well_formed (message_of fs)) ≡ true → length fs ≡ 24 → get_or fs 0 0 ≡ k → n ≤ length area → n ≡ length_of k
-    → x ≡ sets area 0 (le 1 k) → y ≡ sets x 1 (body (message_of fs)) → (0 ≡ number_written fs area) × (y ≡ area_written fs area)
+pub fit_written : (fs area : List ℕ) (k : ℕ) (x y : List ℕ) → (narrow fs && well_formed (message_of fs)) ≡ true → length fs ≡ 24 → get_or fs 0 0 ≡ k → length_of k ≤ length area
+    → x ≡ sets area 0 (le 1 k) → y ≡ sets x 1 (body (message_of fs)) → IsWritten {T = Unit {0}} (Ok tt) fs area y
 unfolding message_of
-fit_written fs area k n x y e l f h m p q =
+fit_written fs area k x y e l f h p q =
     let w = and_right (narrow fs) (well_formed (message_of fs)) e in
-    write_row fs area 0 y l (and_left (narrow fs) (well_formed (message_of fs)) e)
-    (write_whole (message_of fs) area n x y (fit_low fs e).kind_low w h (rw f m) (rw f p) q)
+    let r = write_row fs area 0 y l (and_left (narrow fs) (well_formed (message_of fs)) e)
+    (write_whole (message_of fs) area (length_of k) x y (fit_low fs e).kind_low w h (rw f refl) (rw f p) q) in
+    record { number = r.0; left = r.1; reason = tt }

@@ -1,7 +1,10 @@
 pub mod Numbers
+pub mod Parts
 pub mod Stores
 pub mod Arms
 pub mod Tested
 pub mod Trip
 pub mod Rows
+pub mod Narrow
 pub mod Fits
+pub mod Refused

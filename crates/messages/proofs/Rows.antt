@@ -14,14 +14,15 @@ use Rattle.below.proofs.Lists.{list_length}
 use Rattle.below.proofs.Tests.{and_left, and_right}
 use Rattle.below.proofs.All.{all_each}
 use Rattle.messages.specs.declared.Message.{Message}
+use Rattle.messages.specs.Kinds.{NoKind}
 use Rattle.messages.specs.Layouts.{length_of, fields_fit, well_formed}
-use Rattle.messages.specs.Codec.{message_at, reads, read_of, write_number, written}
-use Rattle.messages.proofs.Arms.{NoKind, length_none}
-use Rattle.messages.proofs.Tested.{length_some, write_malformed, write_short}
+use Rattle.messages.specs.Codec.{message_at, reads, write_number, written}
+use Rattle.messages.proofs.Arms.{length_none}
+use Rattle.messages.proofs.Tested.{kindless, write_malformed, write_short}
 use Rattle.messages.proofs.Stores.{sets_join, sets_front, stores_none, stores_more, stores_end}
 use Rattle.messages.specs.Fields.{numbers_of, eight, fields_of, narrow_starts, narrow_counts, narrow_bytes, narrow, message_of, is_row, read_number, fields_read, number_written, area_written}
 
--- ---- `while n < 8 { fields[at + n] = xs[n]; n += 1; }`
+-- ---- `for n in 0..8 { fields[at + n] = xs[n]; }`
 
 module _ (at : ℕ) (xs l : List ℕ) where
   pub copy_none : l ≡ sets l at (list_below (λ k. get_or xs k 0) 0)
@@ -117,8 +118,8 @@ module _ (bs fs : List ℕ) where
   unread_length n h e = unread (rw (ne_eqb (length bs) (length_of (get_or bs 0 0)) (λ q. h (q ∙ sym e)), and-false) refl)
 
   -- no kind has bytes
-  pub unread_kind : (k n : ℕ) → NoKind k → (length bs ≡ 0 → ⊥) → length bs ≡ n → n ≡ length_of k → (1 ≡ read_number bs fs) × (fs ≡ fields_read bs fs)
-  unread_kind k n h some e p = absurd (some (e ∙ p ∙ sym (length_none k h)))
+  pub unread_kind : NoKind (get_or bs 0 0) → (length bs ≡ 0 → ⊥) → (1 ≡ read_number bs fs) × (fs ≡ fields_read bs fs)
+  unread_kind h some = unread_length 0 some (length_none (get_or bs 0 0) h)
 
   module _ (k : ℕ) (m : Message) (first : get_or bs 0 0 ≡ k) (read : m ≡ message_at bs k) where
     pub unread_malformed : well_formed m ≡ false → (1 ≡ read_number bs fs) × (fs ≡ fields_read bs fs)
@@ -130,7 +131,7 @@ module _ (bs fs : List ℕ) where
     reads_whole l w = rw (first, ← read, w, eq-eqb (length bs) (length_of k) l) refl
 
     pub read_row : (out : List ℕ) → length fs ≡ 24 → length bs ≡ length_of k → well_formed m ≡ true → out ≡ fields_of m → (0 ≡ read_number bs fs) × (out ≡ fields_read bs fs)
-    unfolding read_number fields_read is_row read_of
+    unfolding read_number fields_read is_row
     read_row out n l w p =
         let t : reads bs ≡ true = reads_whole l w in
         (rw (eq-eqb (length fs) 24 n, t) refl, rw (eq-eqb (length fs) 24 n, t, first, ← read) p)
@@ -171,8 +172,4 @@ module _ (fs area : List ℕ) where
 
   pub unwritten_kind : length fs ≡ 24 → NoKind (get_or fs 0 0) → (1 ≡ number_written fs area) × (area ≡ area_written fs area)
   unfolding message_of
-  unwritten_kind l h = unwritten l (λ _. write_malformed (message_of fs) area (go (well_formed (message_of fs)) refl))
-    where
-      go : (b : Bool) → well_formed (message_of fs) ≡ b → well_formed (message_of fs) ≡ false
-      go false e = e
-      go true e = absurd (let z : 1 ≤ length_of (get_or fs 0 0) = length_some (message_of fs) e in omega (arith, length_none (get_or fs 0 0) h))
+  unwritten_kind l h = unwritten l (λ _. write_malformed (message_of fs) area (kindless (message_of fs) h))

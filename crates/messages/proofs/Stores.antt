@@ -1,6 +1,6 @@
 -- Stores one after the other: what is stored behind a store is one store of both; a store at the start is the front;
--- a number of eight bytes; a loop that stores a row; a view. Assumes nothing.
-use Prim.Native.Nat.{ℕ, suc, ◌+◌, ◌*◌, ◌/◌, ◌≤◌}
+-- a loop that stores a row; a view. Assumes nothing.
+use Prim.Native.Nat.{ℕ, suc, ◌+◌, ◌*◌, ◌≤◌}
 use native.Mathlib.Nat.{zero-add, le_antisymm}
 use native.Mathlib.Omega.{arith}
 use mathlib.Core.List.{List, [], ◌∷◌, ◌++◌}
@@ -11,7 +11,7 @@ use Rattle.below.specs.Below.{join_below}
 use Rattle.below.proofs.Lists.{join_none, join_more, join_length}
 use Rattle.views.specs.declared.View.{View}
 use Rattle.messages.specs.Bytes.{le, row, view_body}
-use Rattle.messages.proofs.Numbers.{le_length, le_split}
+use Rattle.messages.proofs.Numbers.{le_length}
 
 pub sets_join : (xs ys l : List ℕ) (at n : ℕ) → at + length xs ≡ n → sets (sets l at xs) n ys ≡ sets l at (xs ++ ys)
 sets_join [] ys l at n e = let q : n ≡ at = omega arith in rw q refl
@@ -20,14 +20,7 @@ sets_join (x ∷ xs) ys l at n e = sets_join xs ys (set l at x) (suc at) n (omeg
 pub sets_front : (xs l : List ℕ) → length xs ≤ length l → sets l 0 xs ≡ xs ++ drop (length xs) l
 sets_front xs l h = sets-eq xs l 0 (rw zero-add h) ∙ rw zero-add
 
--- two halves of a word
-pub word_stored : (x at : ℕ) (l m n : List ℕ) → m ≡ sets l at (le 4 x) → n ≡ sets m (at + 4) (le 4 (x / 4294967296)) → n ≡ sets l at (le 8 x)
-word_stored x at l m n p q =
-    q ∙ ap (λ k. sets k (at + 4) (le 4 (x / 4294967296))) p
-    ∙ sets_join (le 4 x) (le 4 (x / 4294967296)) l at (at + 4) (rw (le_length 4 x) refl)
-    ∙ ap (sets l at) (sym (le_split 4 4 x))
-
--- ---- `while n < end { put(area, at + w * n, x n); n += 1; }`: each x n is stored as the w numbers of f n, m is what stands after n turns
+-- ---- `for n in 0..end { put(area, at + w * n, x n); }`: each x n is stored as the w numbers of f n, m is what stands after n turns
 
 module _ (f : ℕ → List ℕ) (w : ℕ) (each : (i : ℕ) → length (f i) ≡ w) (at : ℕ) (l : List ℕ) where
   pub stores_none : l ≡ sets l at (join_below f 0)

@@ -3,6 +3,7 @@ use Prim.Native.Nat.{ℕ, zero, suc, ◌+◌, ◌≤◌, ◌<◌}
 use native.Mathlib.Omega.{arith}
 use mathlib.Core.Bool.{Bool, true, false, cond, ◌&&◌, and-false}
 use mathlib.Core.List.{List, [], ◌∷◌, ◌++◌}
+use mathlib.Core.Logic.{⊎_elim}
 use mathlib.Core.Path.{◌≡◌, refl, sym, ap, ◌∙◌}
 use lib.Dec.{leb}
 use lib.ListN.{length, get_or, drop, length-append}
@@ -11,10 +12,12 @@ use borrow.Author.Tests.{eq-eqb, ne_eqb, le-leb, lt-leb, leb-true}
 use Rattle.below.proofs.Tests.{and_left, and_right}
 use Rattle.views.specs.Cuts.{cut_ok}
 use Rattle.messages.specs.declared.Message.{Message}
-use Rattle.messages.specs.declared.Reading.{Reading}
+use Rattle.std.specs.Prelude.{Ok}
 use Rattle.messages.specs.Bytes.{le, view_body, cut_bytes}
+use Rattle.messages.specs.Kinds.{NoKind}
 use Rattle.messages.specs.Layouts.{has_number, has_place, has_view, has_cut, has_word, has_set, part, number_fits, place_fits, word_fits, set_fits, view_fits, cut_set, body, bytes_of, length_of, fields_fit, well_formed}
 use Rattle.messages.specs.Codec.{message_at, reads, refused, read_of, writes, write_number, written}
+use Rattle.messages.proofs.Arms.{length_none}
 use Rattle.messages.proofs.Numbers.{le_length, le_byte, view_length, cut_length}
 use Rattle.messages.proofs.Stores.{sets_front}
 
@@ -27,6 +30,14 @@ kind_fits m e =
     let p = and_left (fields_fit k m.number m.sender m.index m.word m.set) (cut_ok (cut_set k m.view.set) m.cut && view_fits k m.view) e in
     let q = and_left (leb 1 k && leb k 6) (number_fits k m.number && (place_fits k m.sender m.index && (word_fits k m.word && set_fits k m.set))) p in
     (leb-true 1 k (and_left (leb 1 k) (leb k 6) q), leb-true k 6 (and_right (leb 1 k) (leb k 6) q))
+
+-- a message of no kind
+pub kindless : (m : Message) → NoKind m.kind → well_formed m ≡ false
+kindless m h = go (well_formed m) refl
+  where
+    go : (b : Bool) → well_formed m ≡ b → well_formed m ≡ false
+    go false e = e
+    go true e = let p = kind_fits m e in absurd (⊎_elim (λ z. omega (arith, p.0)) (λ l. omega (arith, p.1)) h)
 
 -- each part's own test
 pub record PartsFit (m : Message) : Type 0 where
@@ -96,26 +107,30 @@ length_some m w = rw (← length_table m.kind (kind_fits m w).0 (kind_fits m w).
 
 -- ---- reading
 
-module _ (bs : List ℕ) (r : Reading) where
-  pub read_empty : length bs ≡ 0 → r ≡ refused → r ≡ read_of bs
+module _ (bs : List ℕ) where
+  pub read_empty : length bs ≡ 0 → refused ≡ read_of bs
   unfolding read_of reads length_of well_formed fields_fit message_at
-  read_empty e p = p ∙ go bs e
+  read_empty e = go bs e
     where
       go : (l : List ℕ) → length l ≡ 0 → refused ≡ read_of l
       go [] e = refl
       go (x ∷ l) e = absurd (omega arith)
 
-  pub read_length : (n : ℕ) → (length bs ≡ n → ⊥) → n ≡ length_of (get_or bs 0 0) → r ≡ refused → r ≡ read_of bs
+  pub read_length : (n : ℕ) → (length bs ≡ n → ⊥) → n ≡ length_of (get_or bs 0 0) → refused ≡ read_of bs
   unfolding read_of reads
-  read_length n h e p = rw (ne_eqb (length bs) (length_of (get_or bs 0 0)) (λ q. h (q ∙ sym e))) p
+  read_length n h e = rw (ne_eqb (length bs) (length_of (get_or bs 0 0)) (λ q. h (q ∙ sym e)))
 
-  pub read_malformed : (m : Message) → m ≡ message_at bs (get_or bs 0 0) → well_formed m ≡ false → r ≡ refused → r ≡ read_of bs
-  unfolding read_of reads
-  read_malformed m e f p = rw (← e, f, and-false) p
+  -- no kind has bytes
+  pub read_none : NoKind (get_or bs 0 0) → (length bs ≡ 0 → ⊥) → refused ≡ read_of bs
+  read_none h some = read_length 0 some (length_none (get_or bs 0 0) h)
 
-  pub read_whole : (m : Message) (n : ℕ) → length bs ≡ n → n ≡ length_of (get_or bs 0 0) → m ≡ message_at bs (get_or bs 0 0) → well_formed m ≡ true → r ≡ record { message = m; number = 0 } → r ≡ read_of bs
+  pub read_malformed : (m : Message) → m ≡ message_at bs (get_or bs 0 0) → well_formed m ≡ false → refused ≡ read_of bs
   unfolding read_of reads
-  read_whole m n a b e f p = rw (eq-eqb (length bs) (length_of (get_or bs 0 0)) (a ∙ b), ← e, f) p
+  read_malformed m e f = rw (← e, f, and-false)
+
+  pub read_whole : (m : Message) (n : ℕ) → length bs ≡ n → n ≡ length_of (get_or bs 0 0) → m ≡ message_at bs (get_or bs 0 0) → well_formed m ≡ true → Ok m ≡ read_of bs
+  unfolding read_of reads
+  read_whole m n a b e f = rw (eq-eqb (length bs) (length_of (get_or bs 0 0)) (a ∙ b), ← e, f)
 
 -- ---- writing
 

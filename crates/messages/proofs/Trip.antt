@@ -4,10 +4,9 @@
 -- In order: a part that may be there; what a well formed message lacks is blank; the two theorems. Assumes nothing.
 use Prim.Native.Nat.{ℕ, ◌+◌, ◌^◌, ◌<◌}
 use native.Mathlib.Nat.{add-zero}
-use native.Mathlib.Omega.{arith}
 use mathlib.Core.Bool.{Bool, true, false, cond, ◌&&◌}
 use mathlib.Core.List.{List, ◌++◌}
-use mathlib.Core.Path.{◌≡◌, refl, sym, ap, subst, ◌∙◌}
+use mathlib.Core.Path.{◌≡◌, refl, sym, subst, ◌∙◌}
 use lib.Dec.{eqb}
 use lib.ListN.{length, get_or, replicate, get_or-replicate, length-append}
 use lib.Seq.{ext_get_or}
@@ -21,7 +20,7 @@ use Rattle.views.specs.Cuts.{count_fits, cut_ok, no_cut}
 use Rattle.views.specs.declared.View.{View}
 use Rattle.views.specs.declared.Cut.{Cut}
 use Rattle.messages.specs.declared.Message.{Message}
-use Rattle.messages.specs.declared.Reading.{Reading}
+use Rattle.std.specs.Prelude.{Ok}
 use Rattle.messages.specs.Bytes.{le, number_at, view_body, view_at, cut_bytes, cut_at}
 use Rattle.messages.specs.Layouts.{has_number, has_place, has_view, has_cut, has_word, has_set, part, place_fits, blank_view, body, bytes_of, length_of, well_formed}
 use Rattle.messages.specs.Codec.{after_number, after_place, after_view, after_cut, after_word, message_at, reads, refused, read_of}
@@ -191,7 +190,7 @@ message_back m bs r f s =
     chosen (has_place k) (number_at 1 bs (after_number k + 1)) 0 m.index (λ t. le_reads 1 m.index (after_number k + 1) bs r.index_low (second_byte m.sender m.index bs (after_number k) (s.place_stands t))) (λ t. (lacks_place k m.sender m.index f.place_fit t).1) in
     λ j. record { view = view_is j; word = word_is j; number = number_is j; cut = cut_is j; kind = k; set = set_is j; sender = sender-is j; index = index_is j }
 
-pub reads_back : (m : Message) → MessageRange m → well_formed m ≡ true → read_of (bytes_of m) ≡ record { message = m; number = 0 }
+pub reads_back : (m : Message) → MessageRange m → well_formed m ≡ true → read_of (bytes_of m) ≡ Ok m
 unfolding read_of reads bytes_of
 reads_back m r w =
     let bs = bytes_of m in
@@ -219,7 +218,7 @@ parts_given bs k h =
         (given (has_place k) (le 1) (number_at 1 bs (after_number k)) 0 bs (after_number k) (le_stands 1 (after_number k) bs h) t)
         (rw (le_length 1 (cond (has_place k) (number_at 1 bs (after_number k)) 0)) (given (has_place k) (le 1) (number_at 1 bs (after_number k + 1)) 0 bs (after_number k + 1) (le_stands 1 (after_number k + 1) bs h) t))
 
-pub reads_only : (bs : List ℕ) (m : Message) → AreBytes bs → read_of bs ≡ record { message = m; number = 0 } → (well_formed m ≡ true) × (bytes_of m ≡ bs)
+pub reads_only : (bs : List ℕ) (m : Message) → AreBytes bs → read_of bs ≡ Ok m → (well_formed m ≡ true) × (bytes_of m ≡ bs)
 unfolding read_of reads bytes_of message_at
 reads_only bs m h e = go (reads bs) refl e
   where
@@ -232,6 +231,6 @@ reads_only bs m h e = go (reads bs) refl e
         let l : length bs ≡ length_of (get_or bs 0 0) = eqb-true (length bs) (length_of (get_or bs 0 0)) (and_left (eqb (length bs) (length_of (get_or bs 0 0))) (well_formed read) t) in
         (w, stands_whole (bytes_of read) bs (bytes_length read (kind_fits read w).0 (kind_fits read w).1 ∙ sym l) (refl, body_closed read bs (parts_given bs (get_or bs 0 0) h)))
 
-    go : (b : Bool) → reads bs ≡ b → cond b (record { message = read; number = 0 }) refused ≡ record { message = m; number = 0 } → (well_formed m ≡ true) × (bytes_of m ≡ bs)
-    go true t p = let q : read ≡ m = ap (λ (x : Reading). x.message) p in subst (λ (x : Message). (well_formed x ≡ true) × (bytes_of x ≡ bs)) q (whole t)
-    go false t p = let z : ◌≡◌ {A = ℕ} 1 0 = ap (λ (x : Reading). x.number) p in absurd (omega arith)
+    go : (b : Bool) → reads bs ≡ b → cond b (Ok read) refused ≡ Ok m → (well_formed m ≡ true) × (bytes_of m ≡ bs)
+    go true t p = let q : read ≡ m = cc in subst (λ (x : Message). (well_formed x ≡ true) × (bytes_of x ≡ bs)) q (whole t)
+    go false t p = absurd cc

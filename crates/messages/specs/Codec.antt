@@ -1,12 +1,12 @@
 -- Reading and writing. "Reading any other bytes, or writing a malformed value or into too short an area, is refused with 1; bytes after the written ones stay."
 -- That a message reads back as it was written, and that nothing else reads, is proved of these in proofs/Trip. Assumes nothing.
-use Rattle.std.specs.Prelude.{ℕ, ◌+◌, Bool, cond, ◌&&◌, List, ◌++◌, eqb, leb, length, get_or, drop}
+use Rattle.std.specs.Prelude.{ℕ, ◌+◌, Bool, cond, ◌&&◌, List, ◌++◌, eqb, leb, length, get_or, drop, Result, Ok, Err}
 use Rattle.views.specs.Views.{no_view}
 use Rattle.views.specs.Cuts.{no_cut}
 use Rattle.messages.specs.declared.Message.{Message}
-use Rattle.messages.specs.declared.Reading.{Reading}
+use Rattle.messages.specs.declared.Refusal.{Refusal}
+use Rattle.messages.specs.declared.Refusal.TheVariants.{Malformed}
 use Rattle.messages.specs.Bytes.{number_at, view_at, cut_at}
-use Rattle.messages.specs.Messages.{blank}
 use Rattle.messages.specs.Layouts.{has_number, has_place, has_view, has_cut, has_word, has_set, bytes_of, length_of, well_formed}
 
 -- where the parts of a kind stand: behind the first byte and the parts before them
@@ -43,13 +43,13 @@ message_at bs k =
 unfoldable pub reads : List ℕ → Bool
 reads bs = eqb (length bs) (length_of (get_or bs 0 0)) && well_formed (message_at bs (get_or bs 0 0))
 
--- a refusal gives only its number
-abbrev pub refused : Reading
-refused = record { message = blank 0; number = 1 }
+-- any other bytes are malformed
+abbrev pub refused : Result Message Refusal
+refused = Err Malformed
 
--- accepted with the message, or refused with 1
-unfoldable pub read_of : List ℕ → Reading
-read_of bs = cond (reads bs) (record { message = message_at bs (get_or bs 0 0); number = 0 }) refused
+-- accepted with the message, or refused
+unfoldable pub read_of : List ℕ → Result Message Refusal
+read_of bs = cond (reads bs) (Ok (message_at bs (get_or bs 0 0))) refused
 
 -- the message can be written into this area
 unfoldable pub writes : Message → List ℕ → Bool

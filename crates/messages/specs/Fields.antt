@@ -3,7 +3,7 @@
 use Rattle.std.specs.Prelude.{ℕ, ◌+◌, ◌^◌, Bool, cond, ◌&&◌, List, [], ◌∷◌, ◌++◌, eqb, ltb, length, get_or}
 use Rattle.below.specs.Below.{all_below, list_below}
 use Rattle.messages.specs.declared.Message.{Message}
-use Rattle.messages.specs.Codec.{reads, read_of, write_number, written}
+use Rattle.messages.specs.Codec.{message_at, reads, write_number, written}
 
 abbrev pub numbers_of : Message → List ℕ
 numbers_of m = m.kind ∷ m.number ∷ m.set ∷ m.sender ∷ m.index ∷ m.word ∷ m.view.id ∷ m.view.set ∷ []
@@ -57,7 +57,7 @@ unfoldable pub read_number : List ℕ → List ℕ → ℕ
 read_number bs fs = cond (is_row fs && reads bs) 0 1
 
 unfoldable pub fields_read : List ℕ → List ℕ → List ℕ
-fields_read bs fs = cond (is_row fs && reads bs) (fields_of (read_of bs).message) fs
+fields_read bs fs = cond (is_row fs && reads bs) (fields_of (message_at bs (get_or bs 0 0))) fs
 
 -- ---- what a write answers, and leaves in the byte area
 

@@ -1,19 +1,17 @@
-// Parts read from bytes, where the bytes have them.
-ghost use Rattle.std.specs.Prelude.{◌≡◌, ◌+◌, ◌<◌, ◌≤◌, length};
+// Parts read from bytes, where the bytes have them. Bytes and place go in as two: a cursor would be made for each part, and its place is fixed by the layout.
+ghost use Rattle.std.specs.Prelude.{◌≡◌, ◌+◌, ◌<◌, ◌≤◌, length, take, drop};
 ghost use Rattle.messages.specs.Bytes.{number_at, row_at, view_at, cut_at};
 
 use views::{Cut, View};
 
-fn wide(x: u8) -> u32
-    ensures { (result ≡ x) × (result < 256) }
+// The W bytes from this place on.
+fn part_at<const W: usize>(bytes: &[u8], at: usize) -> [u8; W]
+    requires { at + W ≤ length bytes.now }
+    ensures { result ≡ take W (drop at bytes.now) }
 {
-    x as u32
-}
-
-fn wider(x: u32) -> u64
-    ensures { (result ≡ x) × (result < 4294967296) }
-{
-    x as u64
+    let mut part = [0; W];
+    part.copy_from_slice(&bytes[at..at + W]);
+    part
 }
 
 pub(crate) fn byte_at(bytes: &[u8], at: usize) -> u8
@@ -27,31 +25,25 @@ pub(crate) fn number_at(bytes: &[u8], at: usize) -> u32
     requires { at + 4 ≤ length bytes.now }
     ensures { result ≡ number_at 4 bytes.now at }
 {
-    let second = at + 1;
-    let third = second + 1;
-    let fourth = third + 1;
-    let high = wide(bytes[third]) + 256 * wide(bytes[fourth]);
-    wide(bytes[at]) + 256 * (wide(bytes[second]) + 256 * high)
+    u32::from_le_bytes(part_at(bytes, at))
 }
 
+// As number_at: a line each is plainer than one for both.
 pub(crate) fn word_at(bytes: &[u8], at: usize) -> u64
     requires { at + 8 ≤ length bytes.now }
     ensures { result ≡ number_at 8 bytes.now at }
 {
-    let low = wider(number_at(bytes, at));
-    let high = wider(number_at(bytes, at + 4));
-    low + 4294967296 * high
+    u64::from_le_bytes(part_at(bytes, at))
 }
 
+#[tactic(auto, using(below::proofs::Lists::fills), unfolding(crate::specs::Bytes::row_at))]
 fn starts_at(bytes: &[u8], at: usize) -> [u32; 8]
     requires { at + 32 ≤ length bytes.now }
     ensures { result ≡ row_at 4 bytes.now at }
 {
-    let mut starts = [0u32; 8];
-    let mut n: usize = 0;
-    while n < 8 {
+    let mut starts = [0; 8];
+    for n in 0..8 {
         starts[n] = number_at(bytes, at + 4 * n);
-        n += 1;
     }
     starts
 }
@@ -60,29 +52,18 @@ pub(crate) fn view_at(bytes: &[u8], at: usize) -> View
     requires { at + 37 ≤ length bytes.now }
     ensures { result ≡ view_at bytes.now at }
 {
-    let id = number_at(bytes, at);
-    let set = byte_at(bytes, at + 4);
-    let starts = starts_at(bytes, at + 5);
-    View { starts, id, set }
-}
-
-fn counts_at(bytes: &[u8], at: usize) -> [u8; 8]
-    requires { at + 8 ≤ length bytes.now }
-    ensures { result ≡ row_at 1 bytes.now at }
-{
-    let mut counts = [0u8; 8];
-    let mut n: usize = 0;
-    while n < 8 {
-        counts[n] = byte_at(bytes, at + 1 * n);
-        n += 1;
+    View {
+        starts: starts_at(bytes, at + 5),
+        id: number_at(bytes, at),
+        set: byte_at(bytes, at + 4),
     }
-    counts
 }
 
 pub(crate) fn cut_at(bytes: &[u8], at: usize) -> Cut
     requires { at + 8 ≤ length bytes.now }
     ensures { result ≡ cut_at bytes.now at }
 {
-    let counts = counts_at(bytes, at);
-    Cut { counts }
+    Cut {
+        counts: part_at(bytes, at),
+    }
 }

@@ -1,64 +1,32 @@
 // A message's fields stored in a field area.
-ghost use Rattle.std.specs.Prelude.{◌≡◌, ◌+◌, ◌≤◌, length};
+ghost use Rattle.std.specs.Prelude.{◌≡◌};
 ghost use Rattle.std.proofs.lemmas.List.Edits.{sets};
-ghost use Rattle.messages.specs.Fields.{numbers_of, eight, fields_of};
+ghost use Rattle.messages.specs.Fields.{numbers_of, fields_of};
 
-use crate::Message;
+use crate::{Fields, Message};
 
-fn wide8(x: u8) -> u64
-    ensures { result ≡ x }
-{
-    x as u64
-}
-
-fn wide32(x: u32) -> u64
-    ensures { result ≡ x }
-{
-    x as u64
-}
-
-fn give_starts(starts: &[u32; 8], fields: &mut [u64])
-    requires { length fields.old ≡ 24 }
-    ensures { fields.new ≡ sets fields.old 8 (eight starts.now) }
-{
-    let mut n: usize = 0;
-    while n < 8 {
-        fields[8 + n] = wide32(starts[n]);
-        n += 1;
-    }
-}
-
-fn give_counts(counts: &[u8; 8], fields: &mut [u64])
-    requires { length fields.old ≡ 24 }
-    ensures { fields.new ≡ sets fields.old 16 (eight counts.now) }
-{
-    let mut n: usize = 0;
-    while n < 8 {
-        fields[16 + n] = wide8(counts[n]);
-        n += 1;
-    }
-}
-
-fn give_numbers(m: Message, fields: &mut [u64])
-    requires { length fields.old ≡ 24 }
+fn give_numbers(m: Message, fields: &mut Fields)
     ensures { fields.new ≡ sets fields.old 0 (numbers_of m) }
 {
-    fields[0] = wide8(m.kind);
-    fields[1] = wide32(m.number);
-    fields[2] = wide8(m.set);
-    fields[3] = wide8(m.sender);
-    fields[4] = wide8(m.index);
+    fields[0] = u64::from(m.kind);
+    fields[1] = u64::from(m.number);
+    fields[2] = u64::from(m.set);
+    fields[3] = u64::from(m.sender);
+    fields[4] = u64::from(m.index);
     fields[5] = m.word;
-    fields[6] = wide32(m.view.id);
-    fields[7] = wide8(m.view.set);
+    fields[6] = u64::from(m.view.id);
+    fields[7] = u64::from(m.view.set);
 }
 
-// The rows first: where they are blank, they are cleared in whole steps of their own.
-pub(crate) fn give(m: Message, fields: &mut [u64])
-    requires { length fields.old ≡ 24 }
+// The rows first: where they are blank, they are cleared in whole steps of their own. A function for both, generic in the number's type, would be longer than its two loops.
+pub(crate) fn give(m: Message, fields: &mut Fields)
     ensures { fields.new ≡ fields_of m }
 {
-    give_starts(&m.view.starts, fields);
-    give_counts(&m.cut.counts, fields);
+    'starts: for n in 0..8 {
+        fields[8 + n] = u64::from(m.view.starts[n]);
+    }
+    'counts: for n in 0..8 {
+        fields[16 + n] = u64::from(m.cut.counts[n]);
+    }
     give_numbers(m, fields);
 }

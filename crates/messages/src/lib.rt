@@ -10,6 +10,7 @@ mod fit;
 mod formed;
 mod get;
 mod give;
+mod kind;
 mod made;
 mod put;
 mod reader;
@@ -17,10 +18,11 @@ mod take;
 mod writer;
 
 pub use codec::{length_of, read, write};
+pub use kind::Kind;
 pub use reader::read_fields;
 pub use writer::write_fields;
 
-// What a kind does not have is 0.
+// What a kind does not have is 0. The kind is a number here, since a field of the C struct takes every value; `named_kind` names it.
 #[repr(C)]
 #[derive(Clone, Copy)]
 pub struct Message {
@@ -34,10 +36,16 @@ pub struct Message {
     pub index: u8,
 }
 
-// What reading gives: 0 and the message, or 1 and a blank one.
-#[repr(C)]
-#[derive(Clone, Copy)]
-pub struct Reading {
-    pub message: Message,
-    pub number: u8,
+// Why nothing is read or written.
+#[derive(Clone, Copy, Debug, PartialEq, Eq)]
+pub enum Refusal {
+    // The field area has not just 24 places.
+    NotFields,
+    // The bytes, the fields or the value are no message.
+    Malformed,
+    // The byte area is too short for the message.
+    NoRoom,
 }
+
+// A message as C has it, a number a place: 0 kind, 1 number, 2 set, 3 sender, 4 index, 5 word, 6 and 7 the view's id and set, 8 to 15 its start numbers, 16 to 23 the cut.
+type Fields = [u64; 24];

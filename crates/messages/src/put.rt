@@ -1,9 +1,16 @@
-// Parts written into bytes, where the area has room.
+// Parts written into bytes, where the area has room: area and place as two, as in get.
 ghost use Rattle.std.specs.Prelude.{◌≡◌, ◌+◌, ◌≤◌, length};
 ghost use Rattle.std.proofs.lemmas.List.Edits.{sets};
 ghost use Rattle.messages.specs.Bytes.{le, row, view_body, cut_bytes};
 
 use views::{Cut, View};
+
+fn put_part(area: &mut [u8], at: usize, part: &[u8])
+    requires { at + length part.now ≤ length area.old }
+    ensures { area.new ≡ sets area.old at part.now }
+{
+    area[at..at + part.len()].copy_from_slice(part);
+}
 
 pub(crate) fn put_byte(area: &mut [u8], at: usize, x: u8)
     requires { at + 1 ≤ length area.old }
@@ -12,43 +19,27 @@ pub(crate) fn put_byte(area: &mut [u8], at: usize, x: u8)
     area[at] = x;
 }
 
-// The four lowest bytes of x.
-fn put_low(area: &mut [u8], at: usize, x: u64)
+pub(crate) fn put_number(area: &mut [u8], at: usize, number: u32)
     requires { at + 4 ≤ length area.old }
-    ensures { area.new ≡ sets area.old at (le 4 x) }
+    ensures { area.new ≡ sets area.old at (le 4 number) }
 {
-    let second = at + 1;
-    let third = second + 1;
-    let fourth = third + 1;
-    area[at] = (x % 256) as u8;
-    area[second] = (x / 256 % 256) as u8;
-    area[third] = (x / 256 / 256 % 256) as u8;
-    area[fourth] = (x / 256 / 256 / 256 % 256) as u8;
+    put_part(area, at, &number.to_le_bytes());
 }
 
-pub(crate) fn put_number(area: &mut [u8], at: usize, x: u32)
-    requires { at + 4 ≤ length area.old }
-    ensures { area.new ≡ sets area.old at (le 4 x) }
-{
-    put_low(area, at, x as u64);
-}
-
-pub(crate) fn put_word(area: &mut [u8], at: usize, x: u64)
+// As put_number: a line each is plainer than one for both.
+pub(crate) fn put_word(area: &mut [u8], at: usize, word: u64)
     requires { at + 8 ≤ length area.old }
-    ensures { area.new ≡ sets area.old at (le 8 x) }
+    ensures { area.new ≡ sets area.old at (le 8 word) }
 {
-    put_low(area, at, x);
-    put_low(area, at + 4, x / 4294967296);
+    put_part(area, at, &word.to_le_bytes());
 }
 
 fn put_starts(area: &mut [u8], at: usize, starts: &[u32; 8])
     requires { at + 32 ≤ length area.old }
     ensures { area.new ≡ sets area.old at (row 4 starts.now) }
 {
-    let mut n: usize = 0;
-    while n < 8 {
-        put_number(area, at + 4 * n, starts[n]);
-        n += 1;
+    for (n, &start) in starts.iter().enumerate() {
+        put_number(area, at + 4 * n, start);
     }
 }
 
@@ -65,9 +56,5 @@ pub(crate) fn put_cut(area: &mut [u8], at: usize, cut: Cut)
     requires { at + 8 ≤ length area.old }
     ensures { area.new ≡ sets area.old at (cut_bytes cut) }
 {
-    let mut n: usize = 0;
-    while n < 8 {
-        put_byte(area, at + 1 * n, cut.counts[n]);
-        n += 1;
-    }
+    put_part(area, at, &cut.counts);
 }

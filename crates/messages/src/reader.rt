@@ -1,111 +1,102 @@
 // A message read from bytes straight into a field area, kind by kind: only the parts that the kind has are tested. All bytes are read before the first field is stored.
-ghost use Rattle.std.specs.Prelude.{◌≡◌, ◌⊎◌, ◌≤◌, length, get_or};
-ghost use Rattle.messages.specs.Layouts.{length_of};
+ghost use Rattle.std.specs.Prelude.{◌≡◌, ◌⊎◌, IfErr};
+ghost use Rattle.messages.specs.declared.kind.Kind.TheVariants.{View, Word, Sync, Forward, StartChange, MembershipView};
 ghost use Rattle.messages.specs.Fields.{read_number, fields_read};
+ghost use Rattle.messages.specs.Refusals.{number_of, unread_into, HasKind, IsRead};
 
-use crate::Message;
-use crate::codec::length_of;
 use crate::formed::place_fits;
 use crate::get::{byte_at, cut_at, number_at, view_at, word_at};
 use crate::give::give;
+use crate::{Fields, Kind, Message, Refusal};
 
-// Kind 1, a view, or 6, a membership view.
-fn read_view(bytes: &[u8], kind: u8, fields: &mut [u64]) -> u8
-    requires fields_len { length fields.old ≡ 24 }
-    requires bytes_len { length bytes.now ≡ length_of kind }
-    requires bytes_value { get_or bytes.now 0 0 ≡ kind }
-    requires fact { (kind ≡ 1) ⊎ (kind ≡ 6) }
-    ensures { (result ≡ read_number bytes.now fields.old) × (fields.new ≡ fields_read bytes.now fields.old) }
+// A view or a membership view.
+fn read_view(bytes: &[u8], kind: Kind, fields: &mut Fields) -> Result<(), Refusal>
+    requires has_kind { HasKind bytes.now kind }
+    requires is_view { (kind ≡ View) ⊎ (kind ≡ MembershipView) }
+    ensures { IsRead result bytes.now fields.old fields.new }
 {
     let view = view_at(bytes, 1);
     if !view.well_formed() {
-        return 1;
+        return Err(Refusal::Malformed);
     }
-    give(Message::of_view(kind, view), fields);
-    0
+    give(Message::of_view(kind.into(), view), fields);
+    Ok(())
 }
 
-fn read_word(bytes: &[u8], fields: &mut [u64]) -> u8
-    requires fields_len { length fields.old ≡ 24 }
-    requires bytes_len { length bytes.now ≡ length_of 2 }
-    requires bytes_value { get_or bytes.now 0 0 ≡ 2 }
-    ensures { (result ≡ read_number bytes.now fields.old) × (fields.new ≡ fields_read bytes.now fields.old) }
+fn read_word(bytes: &[u8], fields: &mut Fields) -> Result<(), Refusal>
+    requires { HasKind bytes.now Word }
+    ensures { IsRead result bytes.now fields.old fields.new }
 {
     give(Message::of_word(word_at(bytes, 1)), fields);
-    0
+    Ok(())
 }
 
-fn read_sync(bytes: &[u8], fields: &mut [u64]) -> u8
-    requires fields_len { length fields.old ≡ 24 }
-    requires bytes_len { length bytes.now ≡ length_of 3 }
-    requires bytes_value { get_or bytes.now 0 0 ≡ 3 }
-    ensures { (result ≡ read_number bytes.now fields.old) × (fields.new ≡ fields_read bytes.now fields.old) }
+fn read_sync(bytes: &[u8], fields: &mut Fields) -> Result<(), Refusal>
+    requires { HasKind bytes.now Sync }
+    ensures { IsRead result bytes.now fields.old fields.new }
 {
     let number = number_at(bytes, 1);
     let view = view_at(bytes, 5);
     let cut = cut_at(bytes, 42);
     if !cut.well_formed(view.set) {
-        return 1;
+        return Err(Refusal::Malformed);
     }
     if !view.well_formed() {
-        return 1;
+        return Err(Refusal::Malformed);
     }
     give(Message::of_sync(number, view, cut), fields);
-    0
+    Ok(())
 }
 
-fn read_forward(bytes: &[u8], fields: &mut [u64]) -> u8
-    requires fields_len { length fields.old ≡ 24 }
-    requires bytes_len { length bytes.now ≡ length_of 4 }
-    requires bytes_value { get_or bytes.now 0 0 ≡ 4 }
-    ensures { (result ≡ read_number bytes.now fields.old) × (fields.new ≡ fields_read bytes.now fields.old) }
+fn read_forward(bytes: &[u8], fields: &mut Fields) -> Result<(), Refusal>
+    requires { HasKind bytes.now Forward }
+    ensures { IsRead result bytes.now fields.old fields.new }
 {
     let sender = byte_at(bytes, 1);
     let index = byte_at(bytes, 2);
     let view = view_at(bytes, 3);
     let word = word_at(bytes, 40);
-    if !place_fits(4, sender as u64, index as u64) {
-        return 1;
+    if !place_fits(Kind::Forward, u64::from(sender), u64::from(index)) {
+        return Err(Refusal::Malformed);
     }
     if !view.well_formed() {
-        return 1;
+        return Err(Refusal::Malformed);
     }
     give(Message::of_forward(sender, index, view, word), fields);
-    0
+    Ok(())
 }
 
-fn read_start_change(bytes: &[u8], fields: &mut [u64]) -> u8
-    requires fields_len { length fields.old ≡ 24 }
-    requires bytes_len { length bytes.now ≡ length_of 5 }
-    requires bytes_value { get_or bytes.now 0 0 ≡ 5 }
-    ensures { (result ≡ read_number bytes.now fields.old) × (fields.new ≡ fields_read bytes.now fields.old) }
+fn read_start_change(bytes: &[u8], fields: &mut Fields) -> Result<(), Refusal>
+    requires { HasKind bytes.now StartChange }
+    ensures { IsRead result bytes.now fields.old fields.new }
 {
     let number = number_at(bytes, 1);
     let set = byte_at(bytes, 5);
     give(Message::of_start_change(number, set), fields);
-    0
+    Ok(())
 }
 
-// 0, and the message that the bytes are in the field area; or 1, and the field area as it was.
-pub fn read_fields(bytes: &[u8], fields: &mut [u64]) -> u8
-    ensures { (result ≡ read_number bytes.now fields.old) × (fields.new ≡ fields_read bytes.now fields.old) }
+// The message that the bytes are, in the field area; where it is refused, the field area stays as it was.
+pub fn read_fields(bytes: &[u8], fields: &mut [u64]) -> Result<(), Refusal>
+    ensures number { number_of result ≡ read_number bytes.now fields.old }
+    ensures fields { fields.new ≡ fields_read bytes.now fields.old }
+    ensures reason { IfErr result (λ e. e ≡ unread_into fields.old) }
 {
-    if fields.len() != 24 {
-        return 1;
+    let Some(fields) = fields.as_mut_array() else {
+        return Err(Refusal::NotFields);
+    };
+    if bytes.is_empty() {
+        return Err(Refusal::Malformed);
     }
-    if bytes.len() == 0 {
-        return 1;
-    }
-    let kind = bytes[0];
-    if bytes.len() != length_of(kind) as usize {
-        return 1;
+    let kind = Kind::try_from(bytes[0])?;
+    if bytes.len() != usize::from(kind.length()) {
+        return Err(Refusal::Malformed);
     }
     match kind {
-        1 | 6 => read_view(bytes, kind, fields),
-        2 => read_word(bytes, fields),
-        3 => read_sync(bytes, fields),
-        4 => read_forward(bytes, fields),
-        5 => read_start_change(bytes, fields),
-        _ => 1,
+        Kind::View | Kind::MembershipView => read_view(bytes, kind, fields),
+        Kind::Word => read_word(bytes, fields),
+        Kind::Sync => read_sync(bytes, fields),
+        Kind::Forward => read_forward(bytes, fields),
+        Kind::StartChange => read_start_change(bytes, fields),
     }
 }

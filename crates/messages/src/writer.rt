@@ -1,139 +1,114 @@
 // A message written from a field area straight into bytes, kind by kind. All fields are taken before the first byte is stored.
-ghost use Rattle.std.specs.Prelude.{◌≡◌, ◌⊎◌, ◌≤◌, length, get_or};
+ghost use Rattle.std.specs.Prelude.{◌≡◌, ◌⊎◌, IfErr, OnOk, OnErr, get_or};
+ghost use Rattle.messages.specs.declared.kind.Kind.TheVariants.{View, Word, Sync, Forward, StartChange, MembershipView};
+ghost use Rattle.messages.specs.Kinds.{code_of};
 ghost use Rattle.messages.specs.Fields.{number_written, area_written};
+ghost use Rattle.messages.specs.Refusals.{number_of, unwritten_from, IsTestedAs, Fits, IsWritten};
 
-use crate::fit::{cut_fits, numbers_fit, view_fits};
+use crate::fit::fields_are;
 use crate::put::{put_byte, put_cut, put_number, put_view, put_word};
 use crate::take::{cut_of, view_of};
+use crate::{Fields, Kind, Refusal};
 
-// Kind 1, a view, or 6, a membership view: the same tests.
-fn write_view(kind: u8, fields: &[u64], area: &mut [u8]) -> u8
-    requires fields_len { length fields.now ≡ 24 }
-    requires fields_value { get_or fields.now 0 0 ≡ kind }
-    requires fact { (kind ≡ 1) ⊎ (kind ≡ 6) }
-    ensures { (result ≡ number_written fields.now area.old) × (area.new ≡ area_written fields.now area.old) }
+// Whether the fields are a message that the area has room for. Each call names the kind, so that the compiler leaves only its tests, where it is inlined.
+#[inline(always)]
+fn test(fields: &Fields, kind: Kind, area: &[u8]) -> Result<(), Refusal>
+    requires { IsTestedAs fields.now kind }
+    ensures ok { OnOk result (Fits fields.now kind area.now) }
+    ensures err { OnErr result (IsWritten result fields.now area.now area.now) }
 {
-    if area.len() < 38 {
-        return 1;
+    if !fields_are(fields, kind) {
+        return Err(Refusal::Malformed);
     }
-    let numbers_ok = numbers_fit(fields, 1);
-    let cut_ok = cut_fits(fields, 1);
-    let view_ok = view_fits(fields, 1);
-    if !(numbers_ok & (cut_ok & view_ok)) {
-        return 1;
+    if area.len() < usize::from(kind.length()) {
+        return Err(Refusal::NoRoom);
     }
+    Ok(())
+}
+
+// A view or a membership view: the same tests.
+fn write_view(fields: &Fields, kind: Kind, area: &mut [u8]) -> Result<(), Refusal>
+    requires first { get_or fields.now 0 0 ≡ code_of kind }
+    requires is_view { (kind ≡ View) ⊎ (kind ≡ MembershipView) }
+    ensures { IsWritten result fields.now area.old area.new }
+{
+    test(fields, Kind::View, area)?;
     let view = view_of(fields);
-    put_byte(area, 0, kind);
+    put_byte(area, 0, kind.into());
     put_view(area, 1, view);
-    0
+    Ok(())
 }
 
-fn write_word(fields: &[u64], area: &mut [u8]) -> u8
-    requires fields_len { length fields.now ≡ 24 }
-    requires fields_value { get_or fields.now 0 0 ≡ 2 }
-    ensures { (result ≡ number_written fields.now area.old) × (area.new ≡ area_written fields.now area.old) }
+fn write_word(fields: &Fields, area: &mut [u8]) -> Result<(), Refusal>
+    requires { get_or fields.now 0 0 ≡ code_of Word }
+    ensures { IsWritten result fields.now area.old area.new }
 {
-    if area.len() < 9 {
-        return 1;
-    }
-    let numbers_ok = numbers_fit(fields, 2);
-    let cut_ok = cut_fits(fields, 2);
-    let view_ok = view_fits(fields, 2);
-    if !(numbers_ok & (cut_ok & view_ok)) {
-        return 1;
-    }
-    let word = fields[5];
-    put_byte(area, 0, 2);
-    put_word(area, 1, word);
-    0
+    test(fields, Kind::Word, area)?;
+    put_byte(area, 0, Kind::Word.into());
+    put_word(area, 1, fields[5]);
+    Ok(())
 }
 
-fn write_sync(fields: &[u64], area: &mut [u8]) -> u8
-    requires fields_len { length fields.now ≡ 24 }
-    requires fields_value { get_or fields.now 0 0 ≡ 3 }
-    ensures { (result ≡ number_written fields.now area.old) × (area.new ≡ area_written fields.now area.old) }
+fn write_sync(fields: &Fields, area: &mut [u8]) -> Result<(), Refusal>
+    requires { get_or fields.now 0 0 ≡ code_of Sync }
+    ensures { IsWritten result fields.now area.old area.new }
 {
-    if area.len() < 50 {
-        return 1;
-    }
-    let numbers_ok = numbers_fit(fields, 3);
-    let cut_ok = cut_fits(fields, 3);
-    let view_ok = view_fits(fields, 3);
-    if !(numbers_ok & (cut_ok & view_ok)) {
-        return 1;
-    }
+    test(fields, Kind::Sync, area)?;
     let number = fields[1] as u32;
     let view = view_of(fields);
     let cut = cut_of(fields);
-    put_byte(area, 0, 3);
+    put_byte(area, 0, Kind::Sync.into());
     put_number(area, 1, number);
     put_view(area, 5, view);
     put_cut(area, 42, cut);
-    0
+    Ok(())
 }
 
-fn write_forward(fields: &[u64], area: &mut [u8]) -> u8
-    requires fields_len { length fields.now ≡ 24 }
-    requires fields_value { get_or fields.now 0 0 ≡ 4 }
-    ensures { (result ≡ number_written fields.now area.old) × (area.new ≡ area_written fields.now area.old) }
+fn write_forward(fields: &Fields, area: &mut [u8]) -> Result<(), Refusal>
+    requires { get_or fields.now 0 0 ≡ code_of Forward }
+    ensures { IsWritten result fields.now area.old area.new }
 {
-    if area.len() < 48 {
-        return 1;
-    }
-    let numbers_ok = numbers_fit(fields, 4);
-    let cut_ok = cut_fits(fields, 4);
-    let view_ok = view_fits(fields, 4);
-    if !(numbers_ok & (cut_ok & view_ok)) {
-        return 1;
-    }
+    test(fields, Kind::Forward, area)?;
     let sender = fields[3] as u8;
     let index = fields[4] as u8;
     let view = view_of(fields);
     let word = fields[5];
-    put_byte(area, 0, 4);
+    put_byte(area, 0, Kind::Forward.into());
     put_byte(area, 1, sender);
     put_byte(area, 2, index);
     put_view(area, 3, view);
     put_word(area, 40, word);
-    0
+    Ok(())
 }
 
-fn write_start_change(fields: &[u64], area: &mut [u8]) -> u8
-    requires fields_len { length fields.now ≡ 24 }
-    requires fields_value { get_or fields.now 0 0 ≡ 5 }
-    ensures { (result ≡ number_written fields.now area.old) × (area.new ≡ area_written fields.now area.old) }
+fn write_start_change(fields: &Fields, area: &mut [u8]) -> Result<(), Refusal>
+    requires { get_or fields.now 0 0 ≡ code_of StartChange }
+    ensures { IsWritten result fields.now area.old area.new }
 {
-    if area.len() < 6 {
-        return 1;
-    }
-    let numbers_ok = numbers_fit(fields, 5);
-    let cut_ok = cut_fits(fields, 5);
-    let view_ok = view_fits(fields, 5);
-    if !(numbers_ok & (cut_ok & view_ok)) {
-        return 1;
-    }
+    test(fields, Kind::StartChange, area)?;
     let number = fields[1] as u32;
     let set = fields[2] as u8;
-    put_byte(area, 0, 5);
+    put_byte(area, 0, Kind::StartChange.into());
     put_number(area, 1, number);
     put_byte(area, 5, set);
-    0
+    Ok(())
 }
 
-// 0, and the message that the fields are at the area's start; or 1, and the area as it was.
-pub fn write_fields(fields: &[u64], area: &mut [u8]) -> u8
-    ensures { (result ≡ number_written fields.now area.old) × (area.new ≡ area_written fields.now area.old) }
+// The message that the fields are, at the area's start; where it is refused, the area stays as it was.
+pub fn write_fields(fields: &[u64], area: &mut [u8]) -> Result<(), Refusal>
+    ensures number { number_of result ≡ number_written fields.now area.old }
+    ensures area { area.new ≡ area_written fields.now area.old }
+    ensures reason { IfErr result (λ e. e ≡ unwritten_from fields.now) }
 {
-    if fields.len() != 24 {
-        return 1;
-    }
-    let kind = fields[0];
+    let Some(fields) = fields.as_array() else {
+        return Err(Refusal::NotFields);
+    };
+    let kind = Kind::try_from(fields[0])?;
     match kind {
-        1 | 6 => write_view(kind as u8, fields, area),
-        2 => write_word(fields, area),
-        3 => write_sync(fields, area),
-        4 => write_forward(fields, area),
-        5 => write_start_change(fields, area),
-        _ => 1,
+        Kind::View | Kind::MembershipView => write_view(fields, kind, area),
+        Kind::Word => write_word(fields, area),
+        Kind::Sync => write_sync(fields, area),
+        Kind::Forward => write_forward(fields, area),
+        Kind::StartChange => write_start_change(fields, area),
     }
 }

@@ -1,5 +1,5 @@
-// What C links: each call of nhuoseng under its C name, with the same promise; the end-point's steps are in steps.
-// include/nhuoseng.h declares them, tools/archive builds libnhuoseng.a of them.
+// What C links: here messages, read and written by numbers in a field area and bytes in a byte area; the end-point's steps are in steps.
+// include/nhuoseng.h declares these calls, tools/archive builds libnhuoseng.a of them.
 #![tactic(auto)]
 
 mod steps;
@@ -13,7 +13,7 @@ ghost use Rattle.messages.specs.Fields.{read_number, fields_read, number_written
 pub extern "C" fn nh_length(kind: u8) -> u8
     ensures { result ≡ length_of kind }
 {
-    nhuoseng::nh_length(kind)
+    messages::length_of(kind)
 }
 
 // 0, and the message that the bytes are in the field area; or 1, and the field area as it was.
@@ -21,7 +21,7 @@ pub extern "C" fn nh_length(kind: u8) -> u8
 pub extern "C" fn nh_read(bytes: &[u8], fields: &mut [u64]) -> u8
     ensures { (result ≡ read_number bytes.now fields.old) × (fields.new ≡ fields_read bytes.now fields.old) }
 {
-    nhuoseng::nh_read(bytes, fields)
+    u8::from(messages::read_fields(bytes, fields).is_err())
 }
 
 // 0, and the message that the fields are at the area's start; or 1, and the area as it was.
@@ -29,5 +29,5 @@ pub extern "C" fn nh_read(bytes: &[u8], fields: &mut [u64]) -> u8
 pub extern "C" fn nh_write(fields: &[u64], area: &mut [u8]) -> u8
     ensures { (result ≡ number_written fields.now area.old) × (area.new ≡ area_written fields.now area.old) }
 {
-    nhuoseng::nh_write(fields, area)
+    u8::from(messages::write_fields(fields, area).is_err())
 }

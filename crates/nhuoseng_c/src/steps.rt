@@ -1,4 +1,4 @@
-// The end-point for C: fresh, sound, ready, each step and the batch, by value.
+// The end-point for C: a call for fresh, sound, ready, each step and the batch, by value as the header has them. Each promise is the method's own.
 ghost use Rattle.std.specs.Prelude.{[], ◌≡◌, cond, length};
 ghost use Rattle.endpoint.specs.Give.{batch_answer, batch_area};
 ghost use Rattle.endpoint.specs.Ready.{ready as ready_of};
@@ -14,7 +14,7 @@ use views::View;
 pub extern "C" fn nh_fresh(p: u8) -> Answer
     ensures { result ≡ fresh_step p }
 {
-    nhuoseng::steps::nh_fresh(p)
+    EndPoint::fresh(p)
 }
 
 // 1 where the end-point is sound, 0 where it is not.
@@ -22,7 +22,7 @@ pub extern "C" fn nh_fresh(p: u8) -> Answer
 pub extern "C" fn nh_sound(e: EndPoint) -> u8
     ensures { result ≡ cond (sound_of e) 1 0 }
 {
-    nhuoseng::steps::nh_sound(e)
+    u8::from(e.sound())
 }
 
 // 1 where a view is ready, 0 where none is.
@@ -30,7 +30,7 @@ pub extern "C" fn nh_sound(e: EndPoint) -> u8
 pub extern "C" fn nh_ready(e: EndPoint) -> u8
     ensures { result ≡ cond (ready_of e) 1 0 }
 {
-    nhuoseng::steps::nh_ready(e)
+    u8::from(e.ready())
 }
 
 // Application send: 1, 5, 6.
@@ -38,7 +38,7 @@ pub extern "C" fn nh_ready(e: EndPoint) -> u8
 pub extern "C" fn nh_send(e: EndPoint, area: &mut [u64], w: u64) -> Answer
     ensures { (result ≡ step (send_of w) e area.old) × (area.new ≡ area_after (send_of w) e area.old) }
 {
-    nhuoseng::steps::nh_send(e, area, w)
+    e.send(area, w)
 }
 
 // Block-ok: 1, 4.
@@ -46,7 +46,7 @@ pub extern "C" fn nh_send(e: EndPoint, area: &mut [u64], w: u64) -> Answer
 pub extern "C" fn nh_block_ok(e: EndPoint) -> Answer
     ensures { result ≡ step block_ok e [] }
 {
-    nhuoseng::steps::nh_block_ok(e)
+    e.block_ok()
 }
 
 // Start change: 1, 2, 3.
@@ -54,7 +54,7 @@ pub extern "C" fn nh_block_ok(e: EndPoint) -> Answer
 pub extern "C" fn nh_start_change(e: EndPoint, number: u32, set: u8) -> Answer
     ensures { result ≡ step (start_change number set) e [] }
 {
-    nhuoseng::steps::nh_start_change(e, number, set)
+    e.start_change(number, set)
 }
 
 // Membership view: 1 to 4.
@@ -62,7 +62,7 @@ pub extern "C" fn nh_start_change(e: EndPoint, number: u32, set: u8) -> Answer
 pub extern "C" fn nh_membership_view(e: EndPoint, v: View) -> Answer
     ensures { result ≡ step (membership_view v) e [] }
 {
-    nhuoseng::steps::nh_membership_view(e, v)
+    e.membership_view(v)
 }
 
 // Receive from q: 1, 2, 3, 4, 6, 7, 14.
@@ -70,7 +70,7 @@ pub extern "C" fn nh_membership_view(e: EndPoint, v: View) -> Answer
 pub extern "C" fn nh_receive(e: EndPoint, area: &mut [u64], q: u8, m: Message) -> Answer
     ensures { (result ≡ step (receive_of q m) e area.old) × (area.new ≡ area_after (receive_of q m) e area.old) }
 {
-    nhuoseng::steps::nh_receive(e, area, q, m)
+    e.receive(area, q, m)
 }
 
 // Ask to block: 1, 4.
@@ -78,7 +78,7 @@ pub extern "C" fn nh_receive(e: EndPoint, area: &mut [u64], q: u8, m: Message) -
 pub extern "C" fn nh_ask_to_block(e: EndPoint) -> Answer
     ensures { result ≡ step ask_to_block e [] }
 {
-    nhuoseng::steps::nh_ask_to_block(e)
+    e.ask_to_block()
 }
 
 // Declare: 1.
@@ -86,7 +86,7 @@ pub extern "C" fn nh_ask_to_block(e: EndPoint) -> Answer
 pub extern "C" fn nh_declare(e: EndPoint) -> Answer
     ensures { result ≡ step declare_of e [] }
 {
-    nhuoseng::steps::nh_declare(e)
+    e.declare()
 }
 
 // Announce: 1, 8, 10.
@@ -94,7 +94,7 @@ pub extern "C" fn nh_declare(e: EndPoint) -> Answer
 pub extern "C" fn nh_announce(e: EndPoint) -> Answer
     ensures { result ≡ step announce_of e [] }
 {
-    nhuoseng::steps::nh_announce(e)
+    e.announce()
 }
 
 // Pass out: 1, 4, 10.
@@ -102,7 +102,7 @@ pub extern "C" fn nh_announce(e: EndPoint) -> Answer
 pub extern "C" fn nh_pass_out(e: EndPoint, area: &[u64]) -> Answer
     ensures { result ≡ step pass_out e area.now }
 {
-    nhuoseng::steps::nh_pass_out(e, area)
+    e.pass_out(area)
 }
 
 // Sync: 1, 4, 8.
@@ -110,7 +110,7 @@ pub extern "C" fn nh_pass_out(e: EndPoint, area: &[u64]) -> Answer
 pub extern "C" fn nh_sync(e: EndPoint) -> Answer
     ensures { result ≡ step sync_of e [] }
 {
-    nhuoseng::steps::nh_sync(e)
+    e.sync()
 }
 
 // Forward to q of r: 1, 4, 9, 10.
@@ -118,7 +118,7 @@ pub extern "C" fn nh_sync(e: EndPoint) -> Answer
 pub extern "C" fn nh_forward(e: EndPoint, area: &[u64], q: u8, r: u8) -> Answer
     ensures { result ≡ step (forward_of q r) e area.now }
 {
-    nhuoseng::steps::nh_forward(e, area, q, r)
+    e.forward(area, q, r)
 }
 
 // Give out from q: 1, 2, 10, 11.
@@ -126,7 +126,7 @@ pub extern "C" fn nh_forward(e: EndPoint, area: &[u64], q: u8, r: u8) -> Answer
 pub extern "C" fn nh_give_out(e: EndPoint, area: &[u64], q: u8) -> Answer
     ensures { result ≡ step (give_out q) e area.now }
 {
-    nhuoseng::steps::nh_give_out(e, area, q)
+    e.give_out(area, q)
 }
 
 // Install: 1, 4, 9, 12, 13, 15.
@@ -134,7 +134,7 @@ pub extern "C" fn nh_give_out(e: EndPoint, area: &[u64], q: u8) -> Answer
 pub extern "C" fn nh_install(e: EndPoint) -> Answer
     ensures { result ≡ step install_of e [] }
 {
-    nhuoseng::steps::nh_install(e)
+    e.install()
 }
 
 // Batch from q: 1, 2.
@@ -142,5 +142,5 @@ pub extern "C" fn nh_install(e: EndPoint) -> Answer
 pub extern "C" fn nh_give_batch(e: EndPoint, area: &[u64], q: u8, out: &mut [u64]) -> Batch
     ensures { (result ≡ batch_answer e area.now q (length out.old)) × (out.new ≡ batch_area e area.now q out.old) }
 {
-    nhuoseng::steps::nh_give_batch(e, area, q, out)
+    e.batch(area, q, out)
 }

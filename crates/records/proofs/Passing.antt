@@ -123,10 +123,6 @@ module _ (rs : Records) (p n r : ℕ) (w : length rs.counts ≡ 8) where
   pub pass_many : r < 8 → 4 < record_count rs r → false ≡ records_fit rs p n
   pass_many l c = sym (all_stop (sender_fits rs p n) 8 r l (sender_many rs p n r c)) ∙ fit_pass rs p n w
 
-  pass_stop : (k : ℕ) → r < 8 → record_count rs r ≤ 4 → k < record_count rs r → passes rs p n r k ≡ false → false ≡ records_fit rs p n
-  pass_stop k l c m e =
-      sym (all_stop (sender_fits rs p n) 8 r l (sym (sender_pass rs p n r c) ∙ all_stop (passes rs p n r) (record_count rs r) k m e)) ∙ fit_pass rs p n w
-
   -- a sender of whom all passed, and all senders
   pub pass_sender : (k : ℕ) → k ≤ record_count rs r → record_count rs r ≤ k → record_count rs r ≤ 4
       → all_below (passes rs p n r) k ≡ true → all_below (sender_fits rs p n) r ≡ true → all_below (sender_fits rs p n) (r + 1) ≡ true
@@ -136,21 +132,17 @@ module _ (rs : Records) (p n r : ℕ) (w : length rs.counts ≡ 8) where
   pub pass_end : r ≤ 8 → 8 ≤ r → all_below (sender_fits rs p n) r ≡ true → true ≡ records_fit rs p n
   pass_end a b e = sym (all_done (sender_fits rs p n) 8 r a b e) ∙ fit_pass rs p n w
 
-  module _ (k least : ℕ) (x : Record) (i : Bool) (this : x ≡ record_at rs r k) (from : least ≡ least_at rs r k)
-      (ordered : i ≡ (leb least x.number && cond (eqb r p) (leb x.number n) true)) where
-    order_is : i ≡ in_order rs p n r k
-    unfolding in_order
-    order_is = ordered ∙ rw (this, from)
+  module _ (k least : ℕ) (x : Record) (o : Bool) (this : x ≡ record_at rs r k) (from : least ≡ least_at rs r k)
+      (told : o ≡ (leb least x.number && cond (eqb r p) (leb x.number n) true && record_ok x)) where
+    test_is : o ≡ passes rs p n r k
+    unfolding passes in_order
+    test_is = told ∙ rw (this, from)
 
-    pub pass_order : r < 8 → record_count rs r ≤ 4 → k < record_count rs r → not i ≡ true → false ≡ records_fit rs p n
-    unfolding passes
-    pass_order l c m t = pass_stop k l c m (rw (sym order_is ∙ not_is i t))
+    pub pass_stop : r < 8 → record_count rs r ≤ 4 → k < record_count rs r → not o ≡ true → false ≡ records_fit rs p n
+    pass_stop l c m t =
+        sym (all_stop (sender_fits rs p n) 8 r l (sym (sender_pass rs p n r c) ∙ all_stop (passes rs p n r) (record_count rs r) k m (sym test_is ∙ not_is o t))) ∙ fit_pass rs p n w
 
-    module _ (o : Bool) (formed : o ≡ record_ok x) where
-      pub pass_formed : r < 8 → record_count rs r ≤ 4 → k < record_count rs r → not o ≡ true → false ≡ records_fit rs p n
-      unfolding passes
-      pass_formed l c m t = pass_stop k l c m (rw (← this, ← formed, not_is o t) (and-false (in_order rs p n r k)))
+    pub pass_more : not o ≡ false → all_below (passes rs p n r) k ≡ true → all_below (passes rs p n r) (k + 1) ≡ true
+    pass_more t e = all_more (passes rs p n r) k e (sym test_is ∙ is_not o t)
 
-      pub pass_more : not i ≡ false → not o ≡ false → all_below (passes rs p n r) k ≡ true → all_below (passes rs p n r) (k + 1) ≡ true
-      unfolding passes
-      pass_more s t e = all_more (passes rs p n r) k e (and_both (sym order_is ∙ is_not i s) (rw this at (sym formed ∙ is_not o t)))
+pub ruleset passing = (least_first, least_next, pass_many, pass_sender, pass_end, pass_stop, pass_more)

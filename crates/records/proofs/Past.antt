@@ -1,26 +1,27 @@
 -- What stands past the last: a sender above 7 has no records and storing for it changes nothing, and from place 32 on stands no record, whatever a count says.
 -- Then storing and the search for a number, in the steps that the code makes. Assumes nothing.
-use Prim.Native.Nat.{ℕ, zero, suc, ◌+◌, ◌*◌, ◌≤◌, ◌<◌}
+use Prim.Native.Nat.{ℕ, zero, suc, ◌+◌, ◌-◌, ◌*◌, ◌≤◌, ◌<◌}
 use native.Mathlib.Nat.{le_of_suc-le-suc, not-suc-le-zero}
 use native.Mathlib.Omega.{arith}
-use mathlib.Core.Bool.{Bool, true, false, not}
+use mathlib.Core.Bool.{Bool, true, false}
 use mathlib.Core.List.{List, [], ◌∷◌, map}
 use mathlib.Core.Path.{◌≡◌, refl, sym, ap, ◌∙◌}
-use mathlib.Core.Logic.{⊎_elim, ◌≢◌}
+use mathlib.Core.Logic.{◌≢◌}
 use lib.Dec.{eqb, ltb}
-use lib.ListN.{length, set, get_or, length-map, get_or-eq_default}
-use lib.Seq.{set_out}
-use borrow.Author.Tests.{eq-eqb, ne_eqb, eqb-true, eqb-false, lt-ltb, le-ltb}
-use Rattle.below.specs.Below.{none_below}
-use Rattle.below.proofs.Tests.{side, not_is}
-use Rattle.below.proofs.All.{all_each}
+use lib.ListN.{length, set, get_or, length-map, length-set, get_or-eq_default}
+use Rattle.std.specs.Prelude.{Some, None, cond}
+use Rattle.std.specs.Option.{unwrap_or}
+use Rattle.std.specs.Prelude.{is_some}
+use Rattle.std.specs.List.{CopiedTo, SameBelow, SameFrom}
+use Rattle.std.proofs.lemmas.Grind.{common_steps}
+use lib.Seq.{set_out, ext_get_or}
+use borrow.Author.Tests.{eq-eqb, ne_eqb, lt-ltb, le-ltb, ltb-false}
+use Rattle.below.specs.Below.{none_below, first_below}
 use Rattle.below.proofs.Run.{find_stop, find_more, find_end}
-use Rattle.below.proofs.First.{first_is}
+use Rattle.below.proofs.First.{first_low}
 use Rattle.records.specs.declared.Record.{Record}
 use Rattle.records.specs.declared.Records.{Records}
-use Rattle.records.specs.Records.{no_record, record_at, record_count, find_record, holds_record, the_record, newest, store_record}
-use Rattle.records.proofs.Store.{Shaped}
-use Rattle.records.proofs.Find.{newest_none}
+use Rattle.records.specs.Records.{no_record, record_at, record_count, find_record, holds_record, the_record, store_record}
 
 -- what owning an array of structs tells of its list
 pub array_length : (X Y : Type 0) (f : X → Y) (l : List X) (n : ℕ) → length (map f l) ≡ n → length l ≡ n
@@ -51,25 +52,14 @@ module _ (rs : Records) (r : ℕ) (w : length rs.counts ≡ 8) (b : 8 ≤ r) whe
   unfolding record_count
   count_past = get_or-eq_default rs.counts 0 (omega arith)
 
-  pub find_past : (n : ℕ) → find_record rs r n ≡ 0
-  unfolding find_record
-  find_past n = first_is (λ k. eqb (record_at rs r k).number n) (record_count rs r) 0 (omega arith) (λ j l. absurd (omega arith)) (λ l. absurd (omega (arith, count_past)))
-
   pub holds_past : (n : ℕ) → holds_record rs r n ≡ false
   unfolding holds_record
   holds_past n = le-ltb (find_record rs r n) (record_count rs r) (omega (arith, count_past))
 
-  pub newest_past : newest rs r ≡ 0
-  newest_past = newest_none rs r count_past
-
-pub the_past : (rs : Records) (r n : ℕ) → Shaped rs → 8 ≤ r → the_record rs r n ≡ no_record
-unfolding the_record
-the_past rs r n w b = record_past rs r (find_record rs r n) w.held_length (omega arith)
-
-pub store_past : (rs : Records) (r : ℕ) (x : Record) → Shaped rs → 8 ≤ r → store_record rs r x ≡ rs
+pub store_past : (rs : Records) (r : ℕ) (x : Record) → length rs.held ≡ 32 → length rs.counts ≡ 8 → 8 ≤ r → rs ≡ store_record rs r x
 unfolding store_record
-store_past rs r x w b =
-    rw (count_past rs r w.counts_length b, set_out rs.held (r * 4 + 0) x (omega (arith, w.held_length)), set_out rs.counts r 1 (omega (arith, w.counts_length)))
+store_past rs r x h w b =
+    sym (rw (count_past rs r w b, set_out rs.held (r * 4 + 0) x (omega arith), set_out rs.counts r 1 (omega arith)) refl)
 
 -- ---- storing, as the code does it
 
@@ -78,83 +68,58 @@ module _ (rs : Records) (r : ℕ) (x : Record) where
   unfolding store_record
   store_few h = rw (lt-ltb (record_count rs r) 4 h)
 
-  -- d is what reading takes past the end
-  pub store_four : (d : Record) → length rs.held ≡ 32 → r < 8 → 4 ≤ record_count rs r
-      → record {
-        held = set (set (set (set rs.held (r * 4) (get_or rs.held (r * 4 + 1) d)) (r * 4 + 1) (get_or rs.held (r * 4 + 2) d)) (r * 4 + 2) (get_or rs.held (r * 4 + 3) d)) (r * 4 + 3) x;
-        counts = rs.counts;
-      } ≡ store_record rs r x
-  unfolding store_record
-  store_four d w b h =
-      rw (
-        le-ltb (record_count rs r) 4 h,
-        read_at rs r 1 (r * 4 + 1) d w refl (omega arith),
-        read_at rs r 2 (r * 4 + 2) d w refl (omega arith),
-        read_at rs r 3 (r * 4 + 3) d w refl (omega arith),
-      )
+-- three elements moved one place down
+module _ (l m : List Record) (b : ℕ) (d : Record) (room : b + 4 ≤ length l) (len : length m ≡ length l) (moved : CopiedTo l m (b + 1) b 3) (below : SameBelow l m b) (from : SameFrom l m (b + 3)) where
+  moved_three : m ≡ set (set (set l b (get_or l (b + 1) d)) (b + 1) (get_or l (b + 2) d)) (b + 2) (get_or l (b + 3) d)
+  moved_three =
+      ext_get_or d m (set (set (set l b (get_or l (b + 1) d)) (b + 1) (get_or l (b + 2) d)) (b + 2) (get_or l (b + 3) d)) (len ∙ sym (simp length-set))
+      (λ i h. grind (arith, common_steps))
+
+pub store_four : (rs : Records) (r : ℕ) (x : Record) (m : List Record) → length rs.held ≡ 32 → r < 8 → 4 ≤ record_count rs r → length m ≡ length rs.held
+    → CopiedTo rs.held m (r * 4 + 1) (r * 4) (r * 4 + 4 - (r * 4 + 1)) → SameBelow rs.held m (r * 4) → SameFrom rs.held m (r * 4 + (r * 4 + 4 - (r * 4 + 1)))
+    → record { held = set m (r * 4 + 3) x; counts = rs.counts } ≡ store_record rs r x
+unfolding store_record record_at
+store_four rs r x m w b h len moved below from =
+    let three : r * 4 + 4 - (r * 4 + 1) ≡ 3 = omega arith in
+    rw (le-ltb (record_count rs r) 4 h, moved_three rs.held m (r * 4) no_record (omega arith) len (rw three at moved) below (rw three at from)) refl
 
 -- ---- the search for r's record with number n
 
 abbrev pub numbered : Records → ℕ → ℕ → ℕ → Bool
 numbered rs r n k = eqb (record_at rs r k).number n
 
-module _ (rs : Records) (r n k : ℕ) (before : none_below (numbered rs r n) k ≡ true) where
-  pub search_here : k < record_count rs r → (record_at rs r k).number ≡ n → k ≡ find_record rs r n
-  unfolding find_record
-  search_here l e = find_stop (numbered rs r n) (record_count rs r) k (numbered rs r n k) before (eq-eqb (record_at rs r k).number n e) refl l
+pub find_low : (rs : Records) (r n : ℕ) → find_record rs r n ≤ record_count rs r
+unfolding find_record
+find_low rs r n = first_low (numbered rs r n) (record_count rs r)
 
+module _ (rs : Records) (r n k : ℕ) (before : none_below (numbered rs r n) k ≡ true) where
   pub search_more : (record_at rs r k).number ≢ n → none_below (numbered rs r n) (k + 1) ≡ true
   search_more e = find_more (numbered rs r n) (record_count rs r) k (numbered rs r n k) before (ne_eqb (record_at rs r k).number n e) refl
 
-  pub search_end : k ≤ record_count rs r → record_count rs r ≤ k → record_count rs r ≡ find_record rs r n
-  unfolding find_record
-  search_end a b = omega (arith, find_end (numbered rs r n) (record_count rs r) k before a b)
+  pub search_here : (x : Record) → k < record_count rs r → x ≡ record_at rs r k → x.number ≡ n → Some x ≡ cond (holds_record rs r n) (Some (the_record rs r n)) None
+  unfolding find_record holds_record the_record
+  search_here x l this e =
+      let at : k ≡ first_below (numbered rs r n) (record_count rs r) =
+      find_stop (numbered rs r n) (record_count rs r) k (numbered rs r n k) before (eq-eqb (record_at rs r k).number n (ap (λ y. y.number) (sym this) ∙ e)) refl l in
+      rw (← at, lt-ltb k (record_count rs r) l) (ap Some this)
 
-  module _ (w : length rs.held ≡ 32) (past : 32 ≤ r * 4 + k) where
-    pub search_zero : k < record_count rs r → n ≡ 0 → k ≡ find_record rs r n
-    search_zero l e = search_here l (ap (λ y. y.number) (record_past rs r k w past) ∙ sym e)
+  pub search_end : record_count rs r ≡ k → None ≡ cond (holds_record rs r n) (Some (the_record rs r n)) None
+  unfolding find_record holds_record
+  search_end e =
+      let at : k ≡ first_below (numbered rs r n) (record_count rs r) = find_end (numbered rs r n) (record_count rs r) k before (omega arith) (omega arith) in
+      rw (← at, e, le-ltb k k (omega arith)) refl
 
-    pub search_past : k < record_count rs r → n ≢ 0 → record_count rs r ≡ find_record rs r n
-    unfolding find_record none_below
-    search_past l e =
-        sym (first_is (numbered rs r n) (record_count rs r) (record_count rs r) (omega arith)
-        (λ j m. ⊎_elim
-        (λ q. not_is (numbered rs r n j) (all_each (λ i. not (numbered rs r n i)) k j q before))
-        (λ q. rw (record_past rs r j w (omega arith)) (ne_eqb 0 n (λ z. e (sym z))))
-        (side j k))
-        (λ m. absurd (omega arith)))
+-- ---- what was found
 
-  -- ---- whether it is held, and which it is
+pub held_found : (x : Record) (b : Bool) → is_some (cond b (Some x) None) ≡ b
+held_found x true = refl
+held_found x false = refl
 
-  pub hold_here : k < record_count rs r → (record_at rs r k).number ≡ n → true ≡ holds_record rs r n
-  unfolding holds_record
-  hold_here l e = sym (lt-ltb (find_record rs r n) (record_count rs r) (omega (arith, search_here l e)))
-
-  pub hold_end : k ≤ record_count rs r → record_count rs r ≤ k → false ≡ holds_record rs r n
-  unfolding holds_record
-  hold_end a b = sym (le-ltb (find_record rs r n) (record_count rs r) (omega (arith, search_end a b)))
-
-  pub named_here : k < record_count rs r → (record_at rs r k).number ≡ n → record_at rs r k ≡ the_record rs r n
-  unfolding the_record
-  named_here l e = ap (record_at rs r) (search_here l e)
-
-  pub named_end : k ≤ record_count rs r → record_count rs r ≤ k → record_at rs r (record_count rs r) ≡ the_record rs r n
-  unfolding the_record
-  named_end a b = ap (record_at rs r) (search_end a b)
-
-  module _ (w : length rs.held ≡ 32) (past : 32 ≤ r * 4 + k) (l : k < record_count rs r) where
-    pub hold_past : eqb n 0 ≡ holds_record rs r n
-    unfolding holds_record
-    hold_past = go (eqb n 0) refl
-      where
-        go : (b : Bool) → eqb n 0 ≡ b → b ≡ ltb (find_record rs r n) (record_count rs r)
-        go true e = sym (lt-ltb (find_record rs r n) (record_count rs r) (omega (arith, search_zero w past l (eqb-true n 0 e))))
-        go false e = sym (le-ltb (find_record rs r n) (record_count rs r) (omega (arith, search_past w past l (eqb-false n 0 e))))
-
-    pub named_past : no_record ≡ the_record rs r n
-    unfolding the_record
-    named_past = sym (record_past rs r (find_record rs r n) w (go (eqb n 0) refl))
-      where
-        go : (b : Bool) → eqb n 0 ≡ b → 32 ≤ r * 4 + find_record rs r n
-        go true e = omega (arith, search_zero w past l (eqb-true n 0 e))
-        go false e = omega (arith, search_past w past l (eqb-false n 0 e))
+-- where none is, the search ended at the count
+pub the_found : (rs : Records) (r n : ℕ) → unwrap_or (cond (holds_record rs r n) (Some (the_record rs r n)) None) (record_at rs r (record_count rs r)) ≡ the_record rs r n
+unfolding holds_record the_record
+the_found rs r n = go (ltb (find_record rs r n) (record_count rs r)) refl
+  where
+    go : (b : Bool) → ltb (find_record rs r n) (record_count rs r) ≡ b → unwrap_or (cond b (Some (record_at rs r (find_record rs r n))) None) (record_at rs r (record_count rs r)) ≡ record_at rs r (find_record rs r n)
+    go true e = refl
+    go false e = ap (record_at rs r) (omega (arith, ltb-false (find_record rs r n) (record_count rs r) e, find_low rs r n))

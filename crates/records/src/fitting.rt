@@ -1,67 +1,41 @@
 // Whether the records are sound: one pass over all that are held.
 ghost use Rattle.std.specs.Prelude.{◌≡◌, true, cond, ◌&&◌, ◌+◌, leb};
-ghost use Rattle.views.specs.Views.{view_ok};
-ghost use Rattle.views.specs.Cuts.{cut_ok};
-ghost use Rattle.records.specs.Records.{records_fit};
+ghost use Rattle.records.specs.Records.{record_ok, records_fit};
 
-use crate::{Records, place};
-use views::{Cut, View};
+use crate::{Record, Records};
 
-fn well_formed(view: View, cut: Cut) -> bool
-    ensures { result ≡ (view_ok view && cut_ok view.set cut) }
-{
-    if !view.well_formed() {
-        return false;
+impl Record {
+    // Whether the record is well formed, its number rises from the least, and where it is the end-point's own is not above its latest.
+    #[tactic(auto, using(below::proofs::Tests::picks), unfolding(crate::specs::Records::record_ok))]
+    fn passes(self, least: u64, own: bool, latest: u32) -> bool
+        ensures { result ≡ (leb least self.number && cond own (leb self.number latest) true && record_ok self) }
+    {
+        least <= u64::from(self.number)
+            && (!own || self.number <= latest)
+            && self.view.well_formed()
+            && self.cut.well_formed(self.view.set)
     }
-    cut.well_formed(view.set)
-}
-
-// From the least number that rises, and where the sender is the end-point itself none above its latest.
-fn in_order(number: u32, least: u64, own: bool, latest: u32) -> bool
-    ensures { result ≡ (leb least number && cond own (leb number latest) true) }
-{
-    if (number as u64) < least {
-        return false;
-    }
-    if own {
-        return number <= latest;
-    }
-    true
-}
-
-fn after(number: u32) -> u64
-    ensures { result ≡ number + 1 }
-{
-    number as u64 + 1
 }
 
 impl Records {
     // Whether each sender has at most four records, all well formed and rising in number, p's own none above the latest.
-    pub fn fit(self, p: u8, latest: u32) -> bool
-        ensures { result ≡ records_fit self p latest }
+    #[tactic(auto, using(below::proofs::All::all_none, crate::proofs::Passing::passing))]
+    pub fn fit(&self, p: u8, latest: u32) -> bool
+        ensures { result ≡ records_fit self.now p latest }
     {
-        let mut r: u8 = 0;
-        while r < 8 {
-            let count = self.counts[r as usize];
+        for r in 0..8u8 {
+            let count = self.count(r);
             if 4 < count {
                 return false;
             }
-            let own = r == p;
-            let mut least: u64 = 0;
-            let mut k: u8 = 0;
-            while k < count {
-                let at = place(r, k);
-                let x = self.held[at];
-                if !in_order(x.number, least, own, latest) {
+            let mut least = 0;
+            for k in 0..count {
+                let x = self.at(r, k);
+                if !x.passes(least, r == p, latest) {
                     return false;
                 }
-                if !well_formed(x.view, x.cut) {
-                    return false;
-                }
-                least = after(x.number);
-                k += 1;
+                least = u64::from(x.number) + 1;
             }
-            r += 1;
         }
         true
     }

@@ -5,22 +5,16 @@ ghost use Rattle.records.specs.Records.{no_record, no_records, store_record};
 use crate::{Record, Records};
 use views::{Cut, View};
 
-// What stands where there is no record.
-pub fn no_record() -> Record
-    ensures { result ≡ no_record }
-{
-    let starts = [0u32; 8];
-    let counts = [0u8; 8];
-    let view = View {
-        starts,
-        id: 0,
-        set: 0,
-    };
-    let cut = Cut { counts };
-    Record {
-        view,
-        cut,
-        number: 0,
+impl Record {
+    // What stands where there is no record.
+    pub(crate) fn none() -> Record
+        ensures { result ≡ no_record }
+    {
+        Record {
+            view: View::none(),
+            cut: Cut::none(),
+            number: 0,
+        }
     }
 }
 
@@ -29,34 +23,28 @@ impl Records {
     pub fn none() -> Records
         ensures { result ≡ no_records }
     {
-        let x = no_record();
-        let held = [x; 32];
-        let counts = [0u8; 8];
-        Records { held, counts }
+        Records {
+            held: [Record::none(); 32],
+            counts: [0; 8],
+        }
     }
 
-    // With x the newest record of r; with four held, the oldest goes. As it was for r above 7.
-    pub fn store(mut self, r: u8, x: Record) -> Records
-        ensures { result ≡ store_record self r x }
+    // Makes x the newest record of r; with four held, the oldest goes. Nothing changes for r above 7.
+    #[tactic(auto, using(crate::proofs::Past::store_few, crate::proofs::Past::store_four, crate::proofs::Past::store_past), unfolding(crate::specs::Records::record_count))]
+    pub fn store(&mut self, r: u8, x: Record)
+        ensures { self.new ≡ store_record self.old r x }
     {
         if 8 <= r {
-            return self;
+            return;
         }
         let base = r as usize * 4;
         let count = self.counts[r as usize];
         if count < 4 {
-            let at = base + count as usize;
-            self.held[at] = x;
+            self.held[base + count as usize] = x;
             self.counts[r as usize] = count + 1;
-            return self;
+            return;
         }
-        let second = self.held[base + 1];
-        let third = self.held[base + 2];
-        let fourth = self.held[base + 3];
-        self.held[base] = second;
-        self.held[base + 1] = third;
-        self.held[base + 2] = fourth;
+        self.held.copy_within(base + 1..base + 4, base);
         self.held[base + 3] = x;
-        self
     }
 }

@@ -1,216 +1,76 @@
 // A field's value: a number, a set of members, a view, bytes.
-ghost use Rattle.std.specs.Prelude.{◌<◌, ◌≤◌, ◌≡◌};
-
-use crate::lines;
-use crate::lines::Fields;
+use crate::fault::{Fault, Problem};
+use hex::FromHexError;
+use std::alloc::{AllocError, Global};
 use views::{View, sets};
 
-// The value, where the field has one.
-#[derive(Clone, Copy)]
-pub(crate) struct ReadWord {
-    pub value: u64,
-    pub ok: bool,
-}
-
-#[derive(Clone, Copy)]
-pub(crate) struct ReadByte {
-    pub value: u8,
-    pub ok: bool,
-}
-
-#[derive(Clone, Copy)]
-pub(crate) struct ReadView {
-    pub value: View,
-    pub ok: bool,
-}
-
-// A hexadecimal digit's value: 255 where it is none.
-fn digit(b: u8) -> u8 {
-    if b < 48 {
-        return 255;
-    }
-    if b < 58 {
-        return b - 48;
-    }
-    if b < 65 {
-        return 255;
-    }
-    if b < 71 {
-        return b - 55;
-    }
-    if b < 97 {
-        return 255;
-    }
-    if b < 103 {
-        return b - 87;
-    }
-    255
-}
-
-fn no_number() -> ReadWord
-    ensures { result.value ≡ 0 }
-{
-    ReadWord {
-        value: 0,
-        ok: false,
-    }
-}
-
-// The number that the digits from the first on write, up to the most.
-fn digits(field: &[u8], first: usize, base: u64, most: u64) -> ReadWord
-    requires { 0 < base }
-    ensures { result.value ≤ most }
-{
-    if field.len() <= first {
-        return no_number();
+// Decimal, or hexadecimal after 0x. A sign is no digit, so this is not `parse`.
+fn word(field: &[u8]) -> Option<u64> {
+    let (digits, base) = match field.strip_prefix(b"0x") {
+        Some(digits) => (digits, 16),
+        None => (field, 10),
+    };
+    if digits.is_empty() {
+        return None;
     }
     let mut value = 0u64;
-    let mut i = first;
-    while i < field.len() {
-        let d = digit(field[i]) as u64;
-        if base <= d {
-            return no_number();
-        }
-        if most < d {
-            return no_number();
-        }
-        if (most - d) / base < value {
-            return no_number();
-        }
-        value = value * base + d;
-        i += 1;
+    for &b in digits {
+        let digit = char::from(b).to_digit(base)?;
+        value = value
+            .checked_mul(u64::from(base))?
+            .checked_add(u64::from(digit))?;
     }
-    ReadWord { value, ok: true }
+    Some(value)
 }
 
-fn is_hex(field: &[u8]) -> bool {
-    if field.len() < 2 {
-        return false;
-    }
-    (field[0] == 48) & (field[1] == 120)
-}
-
-// Decimal, or hexadecimal after 0x.
-pub(crate) fn number(field: &[u8], most: u64) -> ReadWord
-    ensures { result.value ≤ most }
+// A number that its type holds: a member's, a start number, a word.
+pub(crate) fn number<N: TryFrom<u64>>(field: &[u8]) -> Option<N>
+where
+    N::Error: Drop,
 {
-    if is_hex(field) {
-        return digits(field, 2, 16, most);
-    }
-    digits(field, 0, 10, most)
+    N::try_from(word(field)?).ok()
 }
 
-// A number of one byte: a member's, or a batch's room.
-pub(crate) fn byte(field: &[u8], most: u8) -> ReadByte {
-    let n = number(field, most as u64);
-    ReadByte {
-        value: n.value as u8,
-        ok: n.ok,
+// The digit of a member and nothing else.
+fn member(field: &[u8]) -> Option<u8> {
+    match field {
+        [digit @ b'0'..=b'7'] => Some(*digit - b'0'),
+        _ => None,
     }
-}
-
-fn no_byte() -> ReadByte {
-    ReadByte {
-        value: 0,
-        ok: false,
-    }
-}
-
-// Members, each with the comma or the brace after it, from this one on.
-fn members(field: &[u8]) -> ReadByte {
-    let mut set = 0u8;
-    let mut i = 1;
-    while i < field.len() {
-        if field.len() - i < 2 {
-            return no_byte();
-        }
-        let m = digit(field[i]);
-        if 7 < m {
-            return no_byte();
-        }
-        set = sets::joined(set, sets::only(m));
-        let after = field[i + 1];
-        i += 2;
-        if after == 125 {
-            return ReadByte {
-                value: set,
-                ok: i == field.len(),
-            };
-        }
-        if after != 44 {
-            return no_byte();
-        }
-    }
-    no_byte()
 }
 
 // As {0,2,5}.
-pub(crate) fn set(field: &[u8]) -> ReadByte {
-    if field.len() < 2 {
-        return no_byte();
+pub(crate) fn set(field: &[u8]) -> Option<u8> {
+    let inside = field.strip_prefix(b"{")?.strip_suffix(b"}")?;
+    if inside.is_empty() {
+        return Some(0);
     }
-    if field[0] != 123 {
-        return no_byte();
+    let mut set = 0;
+    for digit in inside.split(|&b| b == b',') {
+        set = sets::joined(set, sets::only(member(digit)?));
     }
-    if field[1] == 125 {
-        return ReadByte {
-            value: 0,
-            ok: field.len() == 2,
-        };
-    }
-    members(field)
+    Some(set)
 }
 
-// A view: its id, set and start numbers, from field 2 on.
-pub(crate) fn view(line: &[u8], f: Fields) -> ReadView {
-    let id = number(lines::field(line, f, 2), 4294967295);
-    let members = set(lines::field(line, f, 3));
+// An id, a set and eight start numbers.
+pub(crate) fn view(id: &[u8], members: &[u8], starting: &[&[u8]]) -> Option<View> {
+    let id = number(id)?;
+    let set = set(members)?;
     let mut starts = [0u32; 8];
-    let mut ok = id.ok & members.ok;
-    let mut n = 0usize;
-    while n < 8 {
-        let s = number(lines::field(line, f, 4 + n), 4294967295);
-        starts[n] = s.value as u32;
-        ok = ok & s.ok;
-        n += 1;
+    for (start, field) in starts.iter_mut().zip(starting) {
+        *start = number(field)?;
     }
-    ReadView {
-        value: View {
-            starts,
-            id: id.value as u32,
-            set: members.value,
-        },
-        ok,
-    }
+    Some(View { starts, id, set })
 }
 
-// Two digits a byte, or - for none. What the room has no place for is counted: a longer message is no message.
-pub(crate) fn bytes(field: &[u8], room: &mut [u8; 64]) -> ReadWord {
-    if lines::is(field, b"-") {
-        return ReadWord { value: 0, ok: true };
+// Two digits a byte, or - for none.
+pub(crate) fn bytes(alloc: Global, field: &[u8]) -> Result<Vec<u8>, Problem> {
+    if field == b"-".as_slice() {
+        return Ok(Vec::new(alloc));
     }
-    let mut i = 0;
-    let mut n = 0usize;
-    while i < field.len() {
-        if field.len() - i < 2 {
-            return no_number();
-        }
-        let high = digit(field[i]);
-        let low = digit(field[i + 1]);
-        if 15 < high {
-            return no_number();
-        }
-        if 15 < low {
-            return no_number();
-        }
-        if n < 64 {
-            room[n] = high * 16 + low;
-            n += 1;
-        }
-        i += 2;
-    }
-    ReadWord {
-        value: n as u64,
-        ok: true,
+    match hex::decode(alloc, field) {
+        Ok(bytes) => Ok(bytes),
+        Err(FromHexError::OutOfMemory) => Err(AllocError.into()),
+        Err(_) => Err(Fault::Bytes.into()),
     }
 }

@@ -1,60 +1,68 @@
 // Sessions 1 to 6: a fresh end-point 0.
-use crate::show::Output;
-use crate::turns::Turn;
-use crate::{show, steps, turns};
+use crate::stage::{Stage, word};
 use views::View;
 
-fn first(area: &[u64; 4096], output: &mut Output) {
-    show::session(1, output);
-    let e = steps::give_out(steps::fresh(0, output), area, 0, output);
-    steps::ask_to_block(steps::install(e, output), output);
+fn first(stage: &mut Stage) {
+    stage.session(1);
+    stage.fresh(0);
+    stage.give_out(0);
+    stage.install();
+    stage.ask_to_block();
 }
 
-fn second(area: &mut [u64; 4096], output: &mut Output) {
-    show::session(2, output);
-    let e = steps::send(steps::fresh(0, output), area, 7, output);
-    let f = steps::give_out(e, area, 0, output);
-    let g = steps::pass_out(f, area, output);
-    steps::give_out(g, area, 0, output);
+fn second(stage: &mut Stage) {
+    stage.session(2);
+    stage.fresh(0);
+    stage.send(7);
+    stage.give_out(0);
+    stage.pass_out();
+    stage.give_out(0);
 }
 
-fn third(output: &mut Output) {
-    show::session(3, output);
-    let e = steps::start_change(steps::fresh(0, output), 0, 1, output);
-    let f = steps::start_change(e, 1, 2, output);
-    let g = steps::start_change(f, 1, 3, output);
-    steps::start_change(g, 1, 3, output);
+fn third(stage: &mut Stage) {
+    stage.session(3);
+    stage.fresh(0);
+    stage.start_change(0, 1);
+    stage.start_change(1, 2);
+    stage.start_change(1, 3);
+    stage.start_change(1, 3);
 }
 
-fn fourth(output: &mut Output) {
-    show::session(4, output);
+fn fourth(stage: &mut Stage) {
     let v = View {
         starts: [1, 1, 0, 0, 0, 0, 0, 0],
         id: 1,
         set: 3,
     };
-    let e = steps::membership_view(steps::fresh(0, output), v, output);
-    steps::membership_view(steps::start_change(e, 1, 3, output), v, output);
+    stage.session(4);
+    stage.fresh(0);
+    stage.membership_view(v);
+    stage.start_change(1, 3);
+    stage.membership_view(v);
 }
 
-fn fifth(output: &mut Output) {
-    show::session(5, output);
-    let e = steps::start_change(steps::fresh(0, output), 4294967295, 1, output);
-    let f = steps::start_change(e, 4294967295, 1, output);
-    let g = steps::start_change(f, 4294967294, 3, output);
-    steps::start_change(g, 1, 255, output);
+fn fifth(stage: &mut Stage) {
+    stage.session(5);
+    stage.fresh(0);
+    stage.start_change(u32::MAX, 1);
+    stage.start_change(u32::MAX, 1);
+    stage.start_change(u32::MAX - 1, 3);
+    stage.start_change(1, 255);
 }
 
-fn sixth(area: &mut [u64; 4096], output: &mut Output) {
-    show::session(6, output);
-    turns::turns(steps::fresh(0, output), area, Turn::Send, 0, 129, output);
+fn sixth(stage: &mut Stage) {
+    stage.session(6);
+    stage.fresh(0);
+    for i in 1..=129 {
+        stage.send(word(i));
+    }
 }
 
-pub(crate) fn play(area: &mut [u64; 4096], output: &mut Output) {
-    first(area, output);
-    second(area, output);
-    third(output);
-    fourth(output);
-    fifth(output);
-    sixth(area, output);
+pub(crate) fn play(stage: &mut Stage) {
+    first(stage);
+    second(stage);
+    third(stage);
+    fourth(stage);
+    fifth(stage);
+    sixth(stage);
 }

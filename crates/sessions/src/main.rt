@@ -1,5 +1,4 @@
 // The sessions at the edges, played on the code: one line a step, with the number that it gives and what it answers.
-// One word area serves all: a fresh end-point marks nothing held, so what an earlier session left there is not read.
 // The table about the definitions, sessions 1 to 11, stands in specs/ and proofs/.
 #![tactic(auto)]
 
@@ -7,20 +6,15 @@ mod agreed;
 mod early;
 mod late;
 mod show;
-mod steps;
-mod turns;
+mod stage;
 
-use show::Output;
+use stage::Stage;
 use std::io;
 
 fn main(rt: HostRuntime) -> io::Result<()> {
-    let mut area = [0u64; 4096];
-    let mut output = Output {
-        out: rt.stdout(),
-        failed: Ok(()),
-    };
-    early::play(&mut area, &mut output);
-    agreed::play(&mut area, &mut output);
-    late::play(&mut area, &mut output);
-    output.failed
+    let mut stage = Stage::new(rt.stdout());
+    early::play(&mut stage);
+    agreed::play(&mut stage);
+    late::play(&mut stage);
+    stage.finish()
 }

@@ -1,29 +1,33 @@
 -- What each branch of the code gives of a definition by tests: of a view that is spent, of a word marked, of slots taken and freed.
 -- Assumes nothing.
-use Prim.Native.Nat.{ℕ, zero, suc, ◌+◌, ◌≤◌, ◌<◌}
+use Prim.Native.Nat.{ℕ, ◌+◌, ◌≤◌, ◌<◌}
 use native.Mathlib.Nat.{le_antisymm}
 use native.Mathlib.Omega.{arith}
 use mathlib.Core.Bool.{Bool, true, false, not, cond, ◌&&◌, ◌||◌}
 use mathlib.Core.List.{List}
 use mathlib.Core.Path.{◌≡◌, refl, sym, ap, ◌∙◌}
-use lib.Dec.{eqb, leb, ltb}
-use lib.ListN.{length, length-set, get_or, set, replicate}
-use lib.Seq.{set_out, set-get_or}
-use borrow.Author.Tests.{eq-eqb, ne_eqb, le-leb, lt-leb, lt-ltb, le-ltb, eqb-true}
-use Rattle.below.specs.Below.{all_below, each_below}
-use Rattle.below.proofs.Tests.{clash, and_right, told_not, told_so}
+use lib.Dec.{eqb, ltb}
+use lib.ListN.{length, get_or, set}
+use Rattle.std.proofs.lemmas.List.{get_or-take, length-take-le}
+use lib.Seq.{set_out}
+use borrow.Author.Tests.{eq-eqb, ne_eqb, le-leb, lt-leb, le-ltb, eqb-true}
+use Rattle.std.specs.Prelude.{Option, Some, None, take}
+use Rattle.std.specs.Option.{is_some}
+use Rattle.below.specs.Below.{found, all_below, each_below}
+use Rattle.below.proofs.Tests.{clash, and_right, told_not}
 use Rattle.below.proofs.All.{all_more, all_stop, all_done, loop_end}
-use Rattle.below.proofs.Lists.{each_step}
+use Rattle.below.proofs.Lists.{each_step, fill_length}
 use Rattle.views.specs.declared.View.{View}
-use Rattle.views.specs.Views.{no_view, start_of, view_ok, same}
+use Rattle.views.specs.Views.{start_of, same}
 use Rattle.marks.specs.declared.Marks.{Marks}
-use Rattle.marks.specs.Marks.{no_gap_in, marked_in, no_marks}
+use Rattle.marks.specs.Marks.{marked_in, no_marks}
 use Rattle.slots.specs.declared.Tag.{Tag}
 use Rattle.slots.specs.declared.Slots.{Slots}
-use Rattle.slots.specs.Slots.{no_tag, tag_for, no_slots, marks_at, mark_in, slot_of, slot_in, has_slot, freed_tag, freed, free_slot, free_in, taken, with_slot, differ_in}
+use Rattle.slots.specs.Slots.{no_tag, tag_for, marks_at, mark_in, slot_in, has_slot, freed_tag, freed, free_slot, free_in, taken, with_slot, differ_in}
 use Rattle.slots.specs.Spent.{spent_by}
 use Rattle.slots.specs.Fit.{slots_fit}
 use Rattle.slots.proofs.Tags.{slot_in_lem, free_in_lem, differ_in_lem}
+use Rattle.slots.proofs.Searches.{found_some, found_nothing, found_told}
 use Rattle.slots.proofs.Elements.{any, past_tag, past_marks, alike_tags, fits_tag, differ_any, fits_any}
 
 -- ---- spent: b is what comparing the views gave, n the start number
@@ -64,33 +68,34 @@ module _ (ss : Slots) (s r i : ℕ) where
   unfolding mark_in
   mark_past l = rw (set_out ss.marks s (marked_in (marks_at ss s) r i) l)
 
--- ---- none, and a slot taken: s is the free slot that was found, m what clearing gave
+-- ---- a slot taken, or v's own: o is what the search found, m what clearing gave
 
-pub none_are : (v : View) (m : Marks) → v ≡ no_view → m ≡ no_marks
-    → record { tags = replicate 4 (record { view = v; used = 0 }); marks = replicate 4 m } ≡ no_slots
-none_are v m e q = rw (e, q)
-
-module _ (v : View) (ss : Slots) (s : ℕ) where
-  pub take_here : (m : Marks) → s ≡ free_in ss.tags → m ≡ no_marks
+module _ (v : View) (ss : Slots) where
+  pub take_here : (s : ℕ) (m : Marks) → Some s ≡ found 4 (free_in ss.tags) → m ≡ no_marks
       → record { tags = set ss.tags s (tag_for v); marks = set ss.marks s m } ≡ taken v ss
   unfolding taken
-  take_here m e q = rw (e, q, free_in_lem ss)
+  take_here s m e q = rw ((found_some 4 (free_in ss.tags) s e).0, q, free_in_lem ss)
 
-  pub take_past : s ≡ free_in ss.tags → length ss.tags ≤ s → length ss.marks ≤ s → ss ≡ taken v ss
+  pub take_past : ◌≡◌ {A = Option ℕ} None (found 4 (free_in ss.tags)) → length ss.tags ≡ 4 → length ss.marks ≡ 4 → ss ≡ taken v ss
   unfolding taken
   take_past e a b =
-      let q : s ≡ free_slot ss = e ∙ free_in_lem ss in
-      rw (← q, set_out ss.tags s (tag_for v) a, set_out ss.marks s no_marks b)
+      let l : 4 ≤ free_slot ss = rw free_in_lem at (found_nothing 4 (free_in ss.tags) e) in
+      rw (set_out ss.tags (free_slot ss) (tag_for v) (omega arith), set_out ss.marks (free_slot ss) no_marks (omega arith))
 
-  pub with_own : s ≡ slot_in ss.tags v → s < 4 → ss ≡ with_slot v ss
-  unfolding with_slot has_slot
-  with_own e l = let q : s ≡ slot_of ss v = e ∙ slot_in_lem ss v in rw (← q, lt-ltb s 4 l)
+  module _ (o : Option ℕ) (e : o ≡ found 4 (slot_in ss.tags v)) where
+    owned : has_slot ss v ≡ is_some o
+    unfolding has_slot
+    owned = rw (e, found_told 4 (slot_in ss.tags v), slot_in_lem ss v)
 
-  pub with_taken : (z : Slots) → s ≡ slot_in ss.tags v → 4 ≤ s → z ≡ taken v ss → z ≡ with_slot v ss
-  unfolding with_slot has_slot
-  with_taken z e l t = let q : s ≡ slot_of ss v = e ∙ slot_in_lem ss v in rw (← q, le-ltb s 4 l) t
+    pub with_own : is_some o ≡ true → ss ≡ with_slot v ss
+    unfolding with_slot
+    with_own f = rw (owned, f)
 
--- ---- a flag lowered or kept: r is what the test of tag n gave, ss the slots at first, z after n turns, y after the next
+    pub with_taken : (z : Slots) → is_some o ≡ false → z ≡ taken v ss → z ≡ with_slot v ss
+    unfolding with_slot
+    with_taken z f t = rw (owned, f) t
+
+-- ---- a flag lowered or kept: r is what the test of tag n gave, m the tags after n turns, y after the next
 
 module _ (gone : View → Bool) (t : Tag) (r : Bool) (e : r ≡ (not (eqb t.used 0) && gone t.view)) where
   lowered : r ≡ true → record { view = t.view; used = 0 } ≡ freed_tag gone t
@@ -104,60 +109,44 @@ module _ (gone : View → Bool) (t : Tag) (r : Bool) (e : r ≡ (not (eqb t.used
       go true z true h = let u : t.used ≡ 0 = eqb-true t.used 0 z in rw (← u)
       go false z true h = clash refl h
 
--- what is known after n turns
-abbrev pub Turned : (View → Bool) → Slots → Slots → ℕ → Type 0
-Turned gone ss z n = (length z.tags ≡ 4) × ((z.marks ≡ ss.marks) × (z.tags ≡ each_below no_tag (freed_tag gone) ss.tags n))
+module _ (gone : View → Bool) (tags : List Tag) (n : ℕ) where
+  abbrev pub freed_below : List Tag
+  freed_below = each_below no_tag (freed_tag gone) tags n
 
-module _ (gone : View → Bool) (ss z : Slots) (n : ℕ) (r : Bool) (here : n < 4) (k : Turned gone ss z n)
-    (e : r ≡ (not (eqb (get_or z.tags n past_tag).used 0) && gone (get_or z.tags n past_tag).view)) (y : Slots) where
-  turned : (t : Tag) → t ≡ freed_tag gone (get_or z.tags n past_tag) → y ≡ record { tags = set z.tags n t; marks = z.marks } → Turned gone ss y (n + 1)
+  below_length : length freed_below ≡ length tags
+  unfolding each_below
+  below_length = fill_length (λ k. freed_tag gone (get_or tags k no_tag)) tags n
+
+module _ (gone : View → Bool) (tags m : List Tag) (four : length tags ≡ 4) (n : ℕ) (here : n < 4) (k : m ≡ freed_below gone tags n) (r : Bool)
+    (e : r ≡ (not (eqb (get_or m n past_tag).used 0) && gone (get_or m n past_tag).view)) (y : List Tag) where
+  turned : (t : Tag) → t ≡ freed_tag gone (get_or m n past_tag) → y ≡ set m n t → y ≡ freed_below gone tags (n + 1)
   turned t a q =
-      rw q (
-        length-set z.tags n t ∙ k.0,
-        (
-          k.1.0,
-          each_step no_tag (freed_tag gone) ss.tags z.tags n t k.1.1 (a ∙ ap (freed_tag gone) (any z.tags n past_tag no_tag (omega (arith, k.0)))),
-        ),
-      )
+      let l : n < length m = omega (arith, ap length k ∙ below_length gone tags n ∙ four) in
+      rw q (each_step no_tag (freed_tag gone) tags m n t k (a ∙ ap (freed_tag gone) (any m n past_tag no_tag l)))
 
-  pub turn_lowered : r ≡ true → y ≡ record { tags = set z.tags n (record { view = (get_or z.tags n past_tag).view; used = 0 }); marks = z.marks }
-      → Turned gone ss y (n + 1)
-  turn_lowered a = turned (record { view = (get_or z.tags n past_tag).view; used = 0 }) (lowered gone (get_or z.tags n past_tag) r e a)
+  pub turn_lowered : r ≡ true → y ≡ set m n (record { view = (get_or m n past_tag).view; used = 0 }) → y ≡ freed_below gone tags (n + 1)
+  turn_lowered a = turned (record { view = (get_or m n past_tag).view; used = 0 }) (lowered gone (get_or m n past_tag) r e a)
 
-  pub turn_kept : r ≡ false → y ≡ z → Turned gone ss y (n + 1)
-  turn_kept a q = turned (get_or z.tags n past_tag) (kept gone (get_or z.tags n past_tag) r e a) (rw (set-get_or z.tags n past_tag) q)
+  pub turn_kept : r ≡ false → y ≡ set m n (get_or m n past_tag) → y ≡ freed_below gone tags (n + 1)
+  turn_kept a q = turned (get_or m n past_tag) (kept gone (get_or m n past_tag) r e a) q
 
-pub turn_end : (gone : View → Bool) (ss z : Slots) (n : ℕ) → n ≤ 4 → 4 ≤ n → Turned gone ss z n → z ≡ freed gone ss
+pub turn_end : (gone : View → Bool) (ss : Slots) (m : List Tag) (n : ℕ) → n ≤ 4 → 4 ≤ n → m ≡ freed_below gone ss.tags n
+    → record { tags = m; marks = ss.marks } ≡ freed gone ss
 unfolding freed
-turn_end gone ss z n a b k = let i : n ≡ 4 = le_antisymm a b in rw (← i, ← k.1.0, ← k.1.1)
-
--- ---- one slot's fit: w is what testing its view gave, g whether it is spent
-
-module _ (p : ℕ) (current : View) (latest : ℕ) (pending : Bool) (t : Tag) (m : Marks) where
-  pub fits_unused : (t.used ≡ 1 → ⊥) → eqb t.used 0 ≡ fits_tag p current latest pending t m
-  fits_unused d = rw (ne_eqb t.used 1 d) (go t.used d)
-    where
-      go : (u : ℕ) → (u ≡ 1 → ⊥) → eqb u 0 ≡ (leb u 1 && true)
-      go zero n = refl
-      go (suc zero) n = absurd (n refl)
-      go (suc (suc u)) n = rw (ne_eqb (suc (suc u)) 0 (λ q. omega arith), lt-leb (suc (suc u)) 1 (omega arith))
-
-  module _ (u : t.used ≡ 1) (w : Bool) (a : w ≡ view_ok t.view) where
-    pub fits_ill : not w ≡ true → false ≡ fits_tag p current latest pending t m
-    fits_ill q = rw (u, told_not w (view_ok t.view) q a)
-
-    module _ (o : not w ≡ false) (g : Bool) (b : g ≡ spent_by p current latest pending t.view) where
-      pub fits_spent : g ≡ true → false ≡ fits_tag p current latest pending t m
-      fits_spent q = rw (u, told_so w (view_ok t.view) o a, ← b, q)
-
-      pub fits_held : (z : Bool) → g ≡ false → z ≡ no_gap_in m p → z ≡ fits_tag p current latest pending t m
-      fits_held z q e = rw (u, told_so w (view_ok t.view) o a, ← b, q) e
+turn_end gone ss m n a b k = let i : n ≡ 4 = le_antisymm a b in rw (← i, ← k)
 
 -- ---- two slots' views: r is what the test of slots s and t gave
 
 module _ (tags : List Tag) (s : ℕ) where
   abbrev pub apart : ℕ → Bool
   apart t = not (alike_tags (get_or tags s past_tag) (get_or tags t past_tag))
+
+-- the tags below slot s, as the code takes them
+pub taken_length : (tags : List Tag) (s : ℕ) → length tags ≡ 4 → s < 4 → length (take s tags) ≡ s
+taken_length tags s n l = length-take-le s tags (omega arith)
+
+pub taken_tag : (tags : List Tag) (s t : ℕ) → t < s → get_or (take s tags) t past_tag ≡ get_or tags t past_tag
+taken_tag tags s t l = get_or-take s tags t past_tag l
 
 module _ (tags : List Tag) where
   abbrev pub apart_below : ℕ → Bool

@@ -1,7 +1,7 @@
 -- What the current view's outcome says of a view that is the same: it is as well formed, and it is not spent.
 -- Assumes nothing.
 use Prim.Native.Nat.{ℕ}
-use mathlib.Core.Bool.{Bool, true, false}
+use mathlib.Core.Bool.{Bool, true, false, not, ◌&&◌, and-true}
 use mathlib.Core.Path.{◌≡◌, sym, ap, ◌∙◌}
 use lib.Dec.{eqb}
 use lib.ListN.{get_or}
@@ -36,3 +36,6 @@ module _ (v current : View) (b : Bool) (e : b ≡ same v current) (t : b ≡ tru
   pub spent_not : (p latest : ℕ) (pending : Bool) → false ≡ spent_by p current latest pending v
   unfolding spent_by
   spent_not p latest pending = rw (← e, t)
+
+  pub kept_same : (good : Bool) → good ≡ view_ok current → (p latest : ℕ) (pending : Bool) → good ≡ (view_ok v && not (spent_by p current latest pending v))
+  kept_same good g p latest pending = rw (← spent_not p latest pending, and-true) (good_same good g)

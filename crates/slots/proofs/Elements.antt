@@ -8,16 +8,15 @@ use mathlib.Core.Path.{◌≡◌}
 use lib.Dec.{eqb, leb}
 use lib.ListN.{length, get_or}
 use lib.Seq.{get_or-set_same, set-get_or}
-use Rattle.below.specs.Below.{all_below, first_below}
+use Rattle.below.specs.Below.{all_below}
 use Rattle.below.proofs.All.{all_same}
-use Rattle.below.proofs.First.{first_same}
 use Rattle.views.specs.declared.View.{View}
 use Rattle.views.specs.Views.{view_ok, same}
 use Rattle.marks.specs.declared.Marks.{Marks}
 use Rattle.marks.specs.Marks.{no_gap_in, no_marks}
 use Rattle.slots.specs.declared.Tag.{Tag}
 use Rattle.slots.specs.declared.Slots.{Slots}
-use Rattle.slots.specs.Slots.{no_tag, tag_at, marks_at, used, slot_in, free_in, differ_in}
+use Rattle.slots.specs.Slots.{no_tag, tag_at, marks_at, used, differ_in}
 use Rattle.slots.specs.Spent.{spent_by}
 use Rattle.slots.specs.Fit.{slot_fits}
 
@@ -46,14 +45,6 @@ fits_tag p current latest pending t m =
 module _ (tags : List Tag) (n : length tags ≡ 4) where
   at : (s : ℕ) → s < 4 → get_or tags s past_tag ≡ get_or tags s no_tag
   at s l = any tags s past_tag no_tag (omega arith)
-
-  pub slot_any : (v : View) → first_below (λ s. for_view v (get_or tags s past_tag)) 4 ≡ slot_in tags v
-  unfolding slot_in
-  slot_any v = first_same (λ s. for_view v (get_or tags s past_tag)) (λ s. for_view v (get_or tags s no_tag)) 4 (λ s l. rw (at s l))
-
-  pub free_any : first_below (λ s. not (eqb (get_or tags s past_tag).used 1)) 4 ≡ free_in tags
-  unfolding free_in
-  free_any = first_same (λ s. not (eqb (get_or tags s past_tag).used 1)) (λ s. not (eqb (get_or tags s no_tag).used 1)) 4 (λ s l. rw (at s l))
 
   pub differ_any : all_below (λ s. all_below (λ t. not (alike_tags (get_or tags s past_tag) (get_or tags t past_tag))) s) 4 ≡ differ_in tags
   unfolding differ_in

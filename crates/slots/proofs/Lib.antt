@@ -7,5 +7,6 @@ pub mod Places
 pub mod Tags
 pub mod Sound
 pub mod Elements
+pub mod Searches
 pub mod Current
 pub mod Branches

@@ -3,91 +3,74 @@ ghost use Rattle.std.specs.Prelude.{◌≡◌, true, not, cond, ◌&&◌, eqb, l
 ghost use Rattle.views.specs.Views.{view_ok, same};
 ghost use Rattle.marks.specs.Marks.{no_gap_in};
 ghost use Rattle.slots.specs.Slots.{differ_in};
-ghost use Rattle.slots.specs.Spent.{spent_by};
+ghost use Rattle.slots.specs.Spent.{spent_at};
 ghost use Rattle.slots.specs.Fit.{slots_fit};
 
-use crate::spending::spent;
-use crate::{Slots, Tag};
+use crate::{Slots, Standing, Tag};
 use marks::Marks;
 use views::View;
 
-// Of one slot: its tag and its marks. A view that is the current one is as good as it, and not spent.
-fn slot_fits(good: bool, p: u8, current: View, latest: u32, pending: bool, t: Tag, m: Marks) -> bool
-    requires { good ≡ view_ok current }
-    ensures { result ≡ (leb t.used 1 && cond (eqb t.used 1) (view_ok t.view && (not (spent_by p current latest pending t.view) && no_gap_in m p)) true) }
-{
-    if t.used != 1 {
-        return t.used == 0;
-    }
-    let view = t.view;
-    if view.same(current) {
-        if !good {
-            return false;
-        }
-    } else {
-        if !view.well_formed() {
-            return false;
-        }
-        if spent(p, current, latest, pending, view) {
-            return false;
+impl Standing {
+    // Whether a view is well formed and not spent: the current one is as good as it is, and not spent. good is worked out once by who tests them all:
+    // in Standing it would be asked of those who do not need it.
+    #[tactic(auto, using(crate::proofs::Current::kept_same))]
+    fn keeps(&self, good: bool, v: View) -> bool
+        requires { good ≡ view_ok self.now.current }
+        ensures { result ≡ (view_ok v && not (spent_at self.now v)) }
+    {
+        if v.same(self.current) {
+            good
+        } else {
+            v.well_formed() && !self.has_spent(v)
         }
     }
-    marks::no_gap_in(m, p)
 }
 
-// Whether both are in use, for one view.
-fn alike(a: Tag, b: Tag) -> bool
-    ensures { result ≡ (eqb a.used 1 && (eqb b.used 1 && same a.view b.view)) }
-{
-    if a.used != 1 {
-        return false;
-    }
-    if b.used != 1 {
-        return false;
-    }
-    a.view.same(b.view)
-}
-
-// Whether no two slots are for one view: each is held against those below it.
-fn differ(tags: [Tag; 4]) -> bool
-    ensures { result ≡ differ_in tags }
-{
-    let mut s: u8 = 0;
-    while s < 4 {
-        let mut t: u8 = 0;
-        while t < s {
-            if alike(tags[s as usize], tags[t as usize]) {
-                return false;
-            }
-            t += 1;
+impl Tag {
+    // Whether a slot with this tag and these marks is as sound asks.
+    fn fits(&self, good: bool, at: &Standing, marks: &Marks) -> bool
+        requires { good ≡ view_ok at.now.current }
+        ensures { result ≡ (leb self.now.used 1 && cond (eqb self.now.used 1) (view_ok self.now.view && (not (spent_at at.now self.now.view) && no_gap_in marks.now at.now.me)) true) }
+    {
+        if self.used != 1 {
+            return self.used == 0;
         }
-        s += 1;
+        at.keeps(good, self.view) && marks.has_no_gap(at.me)
     }
-    true
+
+    // Whether both are in use, for one view.
+    fn is_like(&self, other: &Tag) -> bool
+        ensures { result ≡ (eqb self.now.used 1 && (eqb other.now.used 1 && same self.now.view other.now.view)) }
+    {
+        self.used == 1 && other.used == 1 && self.view.same(other.view)
+    }
 }
 
 impl Slots {
-    // Whether the slots are as sound asks.
-    pub fn fit(self, p: u8, current: View, latest: u32, pending: bool) -> bool
-        ensures { result ≡ slots_fit p current latest pending self }
+    // Whether no two slots are for one view: each is held against those below it.
+    fn differ(&self) -> bool
+        ensures { result ≡ differ_in self.now.tags }
     {
-        let good = current.well_formed();
-        let mut s: u8 = 0;
-        while s < 4 {
-            if !slot_fits(
-                good,
-                p,
-                current,
-                latest,
-                pending,
-                self.tags[s as usize],
-                self.marks[s as usize],
-            ) {
+        for (s, tag) in self.tags.iter().enumerate() {
+            for other in &self.tags[..s] {
+                if tag.is_like(other) {
+                    return false;
+                }
+            }
+        }
+        true
+    }
+
+    // Whether the slots are as sound asks.
+    pub fn fit(&self, at: &Standing) -> bool
+        ensures { result ≡ slots_fit at.now.me at.now.current at.now.latest at.now.pending self.now }
+    {
+        let good = at.current.well_formed();
+        for (s, tag) in self.tags.iter().enumerate() {
+            if !tag.fits(good, at, &self.marks[s]) {
                 return false;
             }
-            s += 1;
         }
-        let tags = self.tags;
-        differ(tags)
+        self.differ()
     }
 }

@@ -9,10 +9,10 @@ mod keeping;
 mod search;
 mod spending;
 
-pub use search::{free_in, marks_in, place, slot_in};
-pub use spending::spent;
+pub use search::place;
+pub use spending::Standing;
 
-// used is 1 where the slot is for this view, 0 where it is free.
+// used is 1 where the slot is for this view, 0 where it is free: a number, as the C header has it.
 #[repr(C)]
 #[derive(Clone, Copy)]
 pub struct Tag {

@@ -1,18 +1,21 @@
--- The laws of sameness: what it says of the three parts; it is an equivalence; two views are the same exactly when they are equal, given eight start numbers each.
+-- The laws of sameness: what it says of the three parts; it is an equivalence; two views are the same exactly when they are equal, given eight start numbers each;
+-- and what code tests by `==`.
 -- Assumes nothing.
 use Prim.Native.Nat.{ℕ, ◌<◌}
-use mathlib.Core.Bool.{true, ◌&&◌}
+use mathlib.Core.Bool.{Bool, true, false, ◌&&◌}
 use mathlib.Core.List.{List}
-use mathlib.Core.Path.{◌≡◌, refl, sym, ◌∙◌}
+use mathlib.Core.Path.{◌≡◌, refl, sym, ap, subst, ◌∙◌}
 use native.Mathlib.Omega.{arith}
 use lib.Dec.{eqb}
-use lib.ListN.{length, get_or}
+use lib.ListN.{length, get_or, replicate}
+use lib.Pointwise.{pointwise, bytes_decides}
+use Rattle.std.proofs.lemmas.List.{get_or-replicate}
 use lib.Seq.{ext_get_or}
 use borrow.Author.Tests.{eq-eqb, eqb-true}
 use Rattle.below.proofs.Tests.{and_both, and_left, and_right, both}
-use Rattle.below.proofs.All.{all_each, all_of}
+use Rattle.below.proofs.All.{all_each, all_of, all_same}
 use Rattle.views.specs.declared.View.{View}
-use Rattle.views.specs.Views.{start_of, starts_same, same}
+use Rattle.views.specs.Views.{start_of, all_zero, starts_same, same}
 
 pub starts_eq : (a b : List ℕ) → length a ≡ 8 → length b ≡ 8 → starts_same a b ≡ true → a ≡ b
 unfolding starts_same
@@ -77,3 +80,29 @@ same_eq a b p q e =
     let s : a.set ≡ b.set = eqb-true a.set b.set (and_left (eqb a.set b.set) (starts_same a.starts b.starts) r) in
     let t : a.starts ≡ b.starts = starts_eq a.starts b.starts p q (and_right (eqb a.set b.set) (starts_same a.starts b.starts) r) in
     λ j. record { starts = t j; id = i j; set = s j }
+
+-- ---- what code tests by `==`: rows of eight, and views
+
+pub starts_tested : (a b : List ℕ) → length a ≡ 8 → length b ≡ 8 → pointwise eqb a b ≡ starts_same a b
+starts_tested a b p q =
+    both (pointwise eqb a b) (starts_same a b)
+    (λ e. subst (λ c. starts_same a c ≡ true) ((bytes_decides a b).0 e) (starts_refl a))
+    (λ e. (bytes_decides a b).1 (starts_eq a b p q e))
+
+pub zero_tested : (a : List ℕ) → length a ≡ 8 → pointwise eqb a (replicate 8 0) ≡ all_zero a
+unfolding starts_same all_zero
+zero_tested a p =
+    starts_tested a (replicate 8 0) p refl
+    ∙ all_same (λ n. eqb (get_or a n 0) (get_or (replicate 8 0) n 0)) (λ n. eqb (get_or a n 0) 0) 8 (λ n l. ap (eqb (get_or a n 0)) (get_or-replicate 8 n 0 0 l))
+
+pub views_tested : (a b : View) → length a.starts ≡ 8 → length b.starts ≡ 8 → (pointwise eqb a.starts b.starts && (eqb a.id b.id && eqb a.set b.set)) ≡ same a b
+unfolding same
+views_tested a b p q = rw (starts_tested a.starts b.starts p q) (go (starts_same a.starts b.starts) (eqb a.id b.id) (eqb a.set b.set))
+  where
+    go : (x y z : Bool) → (x && (y && z)) ≡ (y && (z && x))
+    go true true true = refl
+    go true true false = refl
+    go true false z = refl
+    go false true true = refl
+    go false true false = refl
+    go false false z = refl

@@ -6,27 +6,18 @@ ghost use Rattle.views.specs.Cuts.{no_cut, count_of, cut_ok};
 
 use crate::Cut;
 
-// Four bytes as a number, the lowest first.
-fn four(a: u8, b: u8, c: u8, d: u8) -> u64
-    ensures { (result ≡ a + 256 * (b + 256 * (c + 256 * d))) × (result < 4294967296) }
-{
-    a as u64 + 256 * (b as u64 + 256 * (c as u64 + 256 * (d as u64)))
-}
-
 // The counts in one word, sender n's in byte n: one load.
-fn packed(counts: &[u8; 8]) -> u64
-    ensures { result ≡ word (λ k. get_or counts.now k 0) 8 }
+fn packed(counts: [u8; 8]) -> u64
+    ensures { result ≡ word (λ k. get_or counts k 0) 8 }
 {
-    let low = four(counts[0], counts[1], counts[2], counts[3]);
-    let high = four(counts[4], counts[5], counts[6], counts[7]);
-    low + 4294967296 * high
+    u64::from_le_bytes(counts)
 }
 
 // The top bit of byte n is set where n is a member: of the set in each byte, byte n keeps bit n.
 fn tops(set: u8) -> u64
     ensures { result ≡ word (λ k. cond (has set k) 128 0) 8 }
 {
-    let each = set as u64 * 0x0101010101010101;
+    let each = u64::from(set) * 0x0101010101010101;
     let members = each & 0x8040201008040201;
     (members + 0x7f7f7f7f7f7f7f7f) & 0x8080808080808080
 }
@@ -36,19 +27,15 @@ impl Cut {
     pub fn none() -> Cut
         ensures { result ≡ no_cut }
     {
-        let counts = [0u8; 8];
-        Cut { counts }
+        Cut { counts: [0; 8] }
     }
 
-    // The count of sender n: 0 above 7.
+    // The count of sender n: 0 above 7, as `count_of` has it. As View::start: a line each is plainer than one for both.
     #[tactic(auto, using(std::proofs::lemmas::List::get_or_past), unfolding(crate::specs::Cuts::count_of))]
     pub fn count(self, n: u8) -> u8
         ensures { result ≡ count_of self n }
     {
-        if 8 <= n {
-            return 0;
-        }
-        self.counts[n as usize]
+        self.counts.get(usize::from(n)).copied().unwrap_or(0)
     }
 
     // Whether the cut is well formed for a view with this set. All eight counts at once, by the top bit of each byte:
@@ -56,7 +43,7 @@ impl Cut {
     pub fn well_formed(self, set: u8) -> bool
         ensures { result ≡ cut_ok set self }
     {
-        let c = packed(&self.counts);
+        let c = packed(self.counts);
         let h = tops(set);
         let t = (c & 0x7f7f7f7f7f7f7f7f) + 0x7f7f7f7f7f7f7f7f;
         let bad = (t & c) | ((t | c) & !h);

@@ -9,7 +9,7 @@ pub use starts::starts_zero;
 
 // The start numbers stand first: the id and the set then share the last words.
 #[repr(C)]
-#[derive(Clone, Copy)]
+#[derive(Clone, Copy, PartialEq, Eq)]
 pub struct View {
     pub starts: [u32; 8],
     pub id: u32,
@@ -17,7 +17,7 @@ pub struct View {
 }
 
 #[repr(C)]
-#[derive(Clone, Copy)]
+#[derive(Clone, Copy, PartialEq, Eq)]
 pub struct Cut {
     pub counts: [u8; 8],
 }

@@ -15,10 +15,7 @@ fn bit(set: u8, n: u8) -> bool
 pub fn contains(set: u8, n: u8) -> bool
     ensures { result ≡ has set n }
 {
-    if 8 <= n {
-        return false;
-    }
-    bit(set, n)
+    n < 8 && bit(set, n)
 }
 
 // Whether each member of a is a member of b.
@@ -32,17 +29,14 @@ pub fn within(a: u8, b: u8) -> bool
 pub fn size(set: u8) -> u8
     ensures { result ≡ size_of set }
 {
-    u8::count_ones(set) as u8
+    set.count_ones() as u8
 }
 
 // The set {n}: empty above 7.
 pub fn only(n: u8) -> u8
     ensures { result ≡ only_of n }
 {
-    if n < 8 {
-        return 1u8 << n;
-    }
-    0
+    if n < 8 { 1 << n } else { 0 }
 }
 
 // a joined with b.
@@ -60,11 +54,9 @@ pub fn less(a: u8, n: u8) -> u8
 }
 
 // a, joined with {n} where f holds: what a loop makes a set of.
+#[tactic(auto, using(below::proofs::Tests::picks), unfolding(crate::specs::Sets::with_if))]
 pub fn with_if(a: u8, n: u8, f: bool) -> u8
     ensures { result ≡ with_if_of a n f }
 {
-    if f {
-        return a | only(n);
-    }
-    a
+    if f { joined(a, only(n)) } else { a }
 }

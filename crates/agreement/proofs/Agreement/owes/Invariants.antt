@@ -1,7 +1,5 @@
--- `Agreement::owes` meets its contract: `ok` says that nothing is due to the members passed. Assumes nothing.
-use Prim.Native.Nat.{◌≤◌, ◌-◌}
-use mathlib.Core.Path.{◌≡◌}
-use lib.ListN.{get_or}
+-- `Agreement::owes` meets its contract: `none` says that nothing is due to the members passed. Assumes nothing.
+use Rattle.std.proofs.Common.{◌≡◌, get_or}
 use Rattle.below.specs.Below.{all_below}
 use Rattle.views.specs.Cuts.{no_cut}
 use Rattle.agreement.specs.Due.{no_marks}
@@ -9,7 +7,4 @@ use Rattle.agreement.specs.Spans.{none_to}
 use Rattle.agreement.proofs.Agreement.owes.Given as goal
 
 abbrev pub invariant-loop-q : goal.invariant-loop-q
-invariant-loop-q l = (l.q ≤ 8) × (l.ok ≡ all_below (λ k. none_to l.self.set l.p l.low l.high k (get_or l.self.cuts k no_cut) (get_or l.rows k no_marks)) l.q)
-
-abbrev pub decreases-loop-q : goal.decreases-loop-q
-decreases-loop-q l = 8 - l.q
+invariant-loop-q l = l.none ≡ all_below (λ k. none_to l.self.set l.p l.low l.high k (get_or l.self.cuts k no_cut) (get_or l.rows k no_marks)) l.q

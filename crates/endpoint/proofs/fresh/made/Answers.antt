@@ -6,4 +6,4 @@ use Rattle.endpoint.proofs.fresh.made.Goals as goal
 
 pub returns : goal.returns
 unfolding fresh
-returns c = rw (c.initial-first.ensures, c.first_views-heard.ensures, c.no_rows-forwarded.ensures, c.none.ensures, c.taken.ensures, c.none-2.ensures, c.only.ensures, c.initial-first.ensures, fresh_slots_lem) refl
+returns c = rw (c.take.ensures, c.first_views.ensures, c.no_rows.ensures, c.none.ensures, c.none-slots.ensures, c.only.ensures, c.initial-first.ensures, fresh_slots_lem) refl

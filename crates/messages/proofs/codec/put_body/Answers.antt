@@ -1,169 +1,29 @@
 -- `codec::put_body` meets its contract, kind by kind. Assumes nothing.
-use native.Mathlib.Omega.{arith}
-use lib.ListN.{length}
-use mathlib.Core.Logic.{⊎_elim}
-use Rattle.messages.proofs.Arms.{room, stored_view, stored_word, stored_sync, stored_forward, stored_start_change, stored_none}
-use Rattle.messages.specs.Layouts.{length_of}
+use mathlib.Core.Logic.{⊎_elim, inl, inr}
+use mathlib.Core.Path.{ap, ◌∙◌}
+use Rattle.messages.proofs.Arms.{view_kinds, stored_view, stored_word, stored_sync, stored_forward, stored_start_change}
+use Rattle.messages.specs.Kinds.{code_of}
 use Rattle.messages.proofs.codec.put_body.Goals as goal
 
-pub put_view-requires : goal.put_view-requires
-unfolding length_of
-put_view-requires c =
-    let a = c.args in
-    let asked = c.requires in
-    ⊎_elim (λ e. omega (arith, room a.m.kind 1 (length a.area.now) e (asked)))
-    (λ e. omega (arith, room a.m.kind 6 (length a.area.now) e (asked))) c.in-1.is
+pub returns-in-View : goal.returns-in-View
+returns-in-View c =
+    stored_view c.args.m c.args.area.now c.put_view.new.area
+    (⊎_elim (λ e. inl (c.requires.named ∙ e)) (λ e. inr (c.requires.named ∙ e)) (view_kinds c.args.kind c.in-View.is)) c.put_view.ensures
 
-pub put_word-requires : goal.put_word-requires
-unfolding length_of
-put_word-requires c =
-    let a = c.args in
-    let asked = c.requires in
-    omega (arith, room a.m.kind 2 (length a.area.now) c.in-2.is (asked))
+pub returns-in-Word : goal.returns-in-Word
+returns-in-Word c = stored_word c.args.m c.args.area.now c.put_word.new.area (c.requires.named ∙ ap code_of c.in-Word.is) c.put_word.ensures
 
-pub put_number-requires : goal.put_number-requires
-unfolding length_of
-put_number-requires c =
-    let a = c.args in
-    let asked = c.requires in
-    omega (arith, room a.m.kind 3 (length a.area.now) c.in-3.is (asked))
+pub returns-in-Sync : goal.returns-in-Sync
+returns-in-Sync c =
+    stored_sync c.args.m c.args.area.now c.put_number.new.area c.put_view-in-Sync.new.area c.put_cut.new.area (c.requires.named ∙ ap code_of c.in-Sync.is)
+    c.put_number.ensures c.put_view-in-Sync.ensures c.put_cut.ensures
 
-pub put_view-requires-in-3 : goal.put_view-requires-in-3
-unfolding length_of
-put_view-requires-in-3 c =
-    let a = c.args in
-    let asked = c.requires in
-    let the-put-number = c.put_number in
-    omega
-    (arith, room a.m.kind 3 (length a.area.now) c.in-3.is (asked), the-put-number.auto.area)
+pub returns-in-Forward : goal.returns-in-Forward
+returns-in-Forward c =
+    stored_forward c.args.m c.args.area.now c.put_byte.new.area c.put_byte-in-Forward.new.area c.put_view-in-Forward.new.area c.put_word-in-Forward.new.area
+    (c.requires.named ∙ ap code_of c.in-Forward.is) c.put_byte.ensures c.put_byte-in-Forward.ensures c.put_view-in-Forward.ensures c.put_word-in-Forward.ensures
 
-pub put_cut-requires : goal.put_cut-requires
-unfolding length_of
-put_cut-requires c =
-    let a = c.args in
-    let asked = c.requires in
-    let the-put-number = c.put_number in
-    let the-put-view2 = c.put_view-in-3 in
-    omega (
-      arith,
-      room a.m.kind 3 (length a.area.now) c.in-3.is (asked),
-      the-put-number.auto.area,
-      the-put-view2.auto.area,
-    )
-
-pub put_byte-requires : goal.put_byte-requires
-unfolding length_of
-put_byte-requires c =
-    let a = c.args in
-    let asked = c.requires in
-    omega (arith, room a.m.kind 4 (length a.area.now) c.in-4.is (asked))
-
-pub put_byte-requires-in-4 : goal.put_byte-requires-in-4
-unfolding length_of
-put_byte-requires-in-4 c =
-    let a = c.args in
-    let asked = c.requires in
-    let the-put-byte = c.put_byte in
-    omega
-    (arith, room a.m.kind 4 (length a.area.now) c.in-4.is (asked), the-put-byte.auto.area)
-
-pub put_view-requires-in-4 : goal.put_view-requires-in-4
-unfolding length_of
-put_view-requires-in-4 c =
-    let a = c.args in
-    let asked = c.requires in
-    let the-put-byte = c.put_byte in
-    let the-put-byte2 = c.put_byte-in-4 in
-    omega (
-      arith,
-      room a.m.kind 4 (length a.area.now) c.in-4.is (asked),
-      the-put-byte.auto.area,
-      the-put-byte2.auto.area,
-    )
-
-pub put_word-requires-in-4 : goal.put_word-requires-in-4
-unfolding length_of
-put_word-requires-in-4 c =
-    let a = c.args in
-    let asked = c.requires in
-    let the-put-byte = c.put_byte in
-    let the-put-byte2 = c.put_byte-in-4 in
-    let the-put-view3 = c.put_view-in-4 in
-    omega (
-      arith,
-      room a.m.kind 4 (length a.area.now) c.in-4.is (asked),
-      the-put-byte.auto.area,
-      the-put-byte2.auto.area,
-      the-put-view3.auto.area,
-    )
-
-pub put_number-requires-in-5 : goal.put_number-requires-in-5
-unfolding length_of
-put_number-requires-in-5 c =
-    let a = c.args in
-    let asked = c.requires in
-    omega (arith, room a.m.kind 5 (length a.area.now) c.in-5.is (asked))
-
-pub put_byte-requires-in-5 : goal.put_byte-requires-in-5
-unfolding length_of
-put_byte-requires-in-5 c =
-    let a = c.args in
-    let asked = c.requires in
-    let the-put-number2 = c.put_number-in-5 in
-    omega
-    (arith, room a.m.kind 5 (length a.area.now) c.in-5.is (asked), the-put-number2.auto.area)
-
-pub returns-in-1 : goal.returns-in-1
-returns-in-1 c =
-    let a = c.args in
-    let the-put-view = c.put_view in
-    stored_view a.m a.area.now the-put-view.new.area c.in-1.is the-put-view.ensures
-
-pub returns-in-2 : goal.returns-in-2
-returns-in-2 c =
-    let a = c.args in
-    let the-put-word = c.put_word in
-    stored_word a.m a.area.now the-put-word.new.area c.in-2.is the-put-word.ensures
-
-pub returns-in-3 : goal.returns-in-3
-returns-in-3 c =
-    let a = c.args in
-    let the-put-number = c.put_number in
-    let the-put-view2 = c.put_view-in-3 in
-    let the-put-cut = c.put_cut in
-    stored_sync a.m a.area.now the-put-number.new.area the-put-view2.new.area
-    the-put-cut.new.area c.in-3.is the-put-number.ensures the-put-view2.ensures
-    the-put-cut.ensures
-
-pub returns-in-4 : goal.returns-in-4
-returns-in-4 c =
-    let a = c.args in
-    let the-put-byte = c.put_byte in
-    let the-put-byte2 = c.put_byte-in-4 in
-    let the-put-view3 = c.put_view-in-4 in
-    let the-put-word2 = c.put_word-in-4 in
-    stored_forward a.m a.area.now the-put-byte.new.area the-put-byte2.new.area
-    the-put-view3.new.area the-put-word2.new.area c.in-4.is the-put-byte.ensures
-    the-put-byte2.ensures the-put-view3.ensures the-put-word2.ensures
-
-pub returns-in-5 : goal.returns-in-5
-returns-in-5 c =
-    let a = c.args in
-    let the-put-number2 = c.put_number-in-5 in
-    let the-put-byte3 = c.put_byte-in-5 in
-    stored_start_change a.m a.area.now the-put-number2.new.area the-put-byte3.new.area
-    c.in-5.is the-put-number2.ensures the-put-byte3.ensures
-
-pub returns-in_default : goal.returns-in_default
-returns-in_default c =
-    let a = c.args in
-    stored_none a.m a.area.now (
-      λ e. grind arith,
-      (
-        λ e. omega arith,
-        (
-          λ e. omega arith,
-          (λ e. omega arith, (λ e. omega arith, λ e. grind arith)),
-        ),
-      ),
-    )
+pub returns-in-StartChange : goal.returns-in-StartChange
+returns-in-StartChange c =
+    stored_start_change c.args.m c.args.area.now c.put_number-in-StartChange.new.area c.put_byte-in-StartChange.new.area
+    (c.requires.named ∙ ap code_of c.in-StartChange.is) c.put_number-in-StartChange.ensures c.put_byte-in-StartChange.ensures

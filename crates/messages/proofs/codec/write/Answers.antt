@@ -1,44 +1,50 @@
 -- `codec::write` meets its contract, by the test at which it stopped. Assumes nothing.
 use native.Mathlib.Omega.{arith}
-use Rattle.below.proofs.Tests.{told_not, told_so}
-use Rattle.messages.proofs.Tested.{length_some, write_malformed, write_short, write_whole}
-use borrow.Author.Rules.{rules}
-use mathlib.Core.Path.{ap}
+use mathlib.Core.Path.{◌≡◌, ap, refl, sym, subst, ◌∙◌}
 use mathlib.Core.Bool.{not}
+use borrow.Author.Rules.{rules}
+use Rattle.below.proofs.Tests.{told_not, told_so}
+use Rattle.std.proofs.lemmas.Result.{err_from_is_err_and}
+use Rattle.std.specs.Prelude.{Err, IfErr}
+use Rattle.messages.specs.declared.Refusal.TheVariants.{Malformed}
+use Rattle.messages.specs.Layouts.{length_of}
+use Rattle.messages.specs.Refusals.{number_of, unwritten}
+use Rattle.messages.proofs.Tested.{kindless, length_some, write_malformed, write_short, write_whole}
 use Rattle.messages.proofs.codec.write.Goals as goal
 
-pub returns-then-not-well_formed : goal.returns-then-not-well_formed
-returns-then-not-well_formed c = write_malformed c.args.m c.args.area.now (told_not _ _ (ap not c.if-not-well_formed.true) c.well_formed-2.ensures)
+pub returns-in_err-kind : goal.returns-in_err-kind
+returns-in_err-kind c =
+    let w = err_from_is_err_and c.from_residual.result c.from_residual.ensures.1 in
+    let n = c.in_err-kind.ensures in
+    let q : c.from_residual.result ≡ Err Malformed = w.1 ∙ ap Err (w.2 ∙ n.1) in
+    let e = kindless c.args.m n.0 in
+    let p = write_malformed c.args.m c.args.area.now e in
+    record { number = ap number_of q ∙ p.0; area = p.1; reason = subst (λ r. IfErr r (λ x. x ≡ unwritten c.args.m)) (sym q) (rw e refl) }
 
-pub returns-then-area-length_of : goal.returns-then-area-length_of
-returns-then-area-length_of c =
-    let a = c.args in
-    let the-length-of = c.length_of in
-    write_short a.m a.area.now _ c.if-area-length_of.true the-length-of.ensures
+pub returns-then-not-fits : goal.returns-then-not-fits
+returns-then-not-fits c =
+    let e = told_not _ _ (ap not c.if-not-fits.true) c.fits.ensures in
+    let p = write_malformed c.args.m c.args.area.now e in
+    record { number = p.0; area = p.1; reason = rw e refl }
+
+pub returns-then-area-from : goal.returns-then-area-from
+returns-then-area-from c =
+    let e = told_so _ _ (ap not c.if-not-fits.false) c.fits.ensures in
+    let p = write_short c.args.m c.args.area.now _ c.if-area-from.true (c.from.ensures ∙ c.length.ensures ∙ ap length_of (sym c.in_ok-kind.ensures)) in
+    record { number = p.0; area = p.1; reason = rw e refl }
 
 pub put_byte-requires : goal.put_byte-requires
 put_byte-requires c =
-    let a = c.args in
-    let the-well-formed = c.well_formed-2 in
-    let the-if1 = c.if-not-well_formed in
-    let the-length-of = c.length_of in
-    let the-if2 = c.if-area-length_of in
     omega (
       arith,
-      length_some a.m (told_so _ _ (ap not the-if1.false) the-well-formed.ensures),
-      the-length-of.ensures,
-      the-if2.false,
+      length_some c.args.m (told_so _ _ (ap not c.if-not-fits.false) c.fits.ensures),
+      c.from.ensures ∙ c.length.ensures ∙ ap length_of (sym c.in_ok-kind.ensures),
+      c.if-area-from.false,
     )
 
 pub returns : goal.returns
 returns c =
-    let a = c.args in
-    let the-well-formed = c.well_formed-2 in
-    let the-if1 = c.if-not-well_formed in
-    let the-length-of = c.length_of in
-    let the-if2 = c.if-area-length_of in
-    let the-put-byte = c.put_byte in
-    let the-put-body = c.put_body in
-    write_whole a.m a.area.now _ the-put-byte.new.area the-put-body.new.area (search rules)
-    (told_so _ _ (ap not the-if1.false) the-well-formed.ensures) the-if2.false the-length-of.ensures
-    the-put-byte.ensures the-put-body.ensures
+    let p = write_whole c.args.m c.args.area.now _ c.put_byte.new.area c.put_body.new.area (search rules)
+    (told_so _ _ (ap not c.if-not-fits.false) c.fits.ensures) c.if-area-from.false (c.from.ensures ∙ c.length.ensures ∙ ap length_of (sym c.in_ok-kind.ensures))
+    c.put_byte.ensures c.put_body.ensures in
+    record { number = p.0; area = p.1; reason = tt }

@@ -1,13 +1,7 @@
--- `fit::narrow_row` meets its contract: `ok` says all numbers passed. Assumes nothing.
+-- `ok` says that all fields so far passed.
+use Rattle.std.proofs.Common.{◌≡◌, ◌+◌, get_or, ltb}
 use Rattle.below.specs.Below.{all_below}
-use mathlib.Core.Path.{◌≡◌}
-use Prim.Native.Nat.{◌≤◌, ◌-◌, ◌+◌}
-use lib.ListN.{get_or}
-use lib.Dec.{ltb}
 use Rattle.messages.proofs.fit.narrow_row.Given as goal
 
 abbrev pub invariant-loop-n : goal.invariant-loop-n
-invariant-loop-n l = (l.n ≤ 8) × (l.ok ≡ all_below (λ k. ltb (get_or l.fields (l.at + k) 0) l.top) l.n)
-
-abbrev pub decreases-loop-n : goal.decreases-loop-n
-decreases-loop-n l = 8 - l.n
+invariant-loop-n l = l.ok ≡ all_below (λ k. ltb (get_or l.fields (l.at + k) 0) l.top) l.n

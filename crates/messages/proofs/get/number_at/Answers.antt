@@ -1,8 +1,7 @@
 -- `get::number_at` meets its contract: four bytes, the lowest first. Assumes nothing.
-use native.Mathlib.Omega.{arith}
-use Rattle.messages.specs.Bytes.{number_at}
+use mathlib.Core.Path.{◌∙◌}
+use Rattle.messages.proofs.Parts.{number_taken}
 use Rattle.messages.proofs.get.number_at.Goals as goal
 
 pub returns : goal.returns
-unfolding number_at
-returns c = omega arith
+returns c = rw c.part_at.ensures at c.from_le_bytes.ensures ∙ number_taken c.args.at c.args.bytes.now

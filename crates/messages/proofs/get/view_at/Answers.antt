@@ -4,4 +4,4 @@ use Rattle.messages.proofs.get.view_at.Goals as goal
 
 pub returns : goal.returns
 unfolding view_at
-returns c = rw (c.number_at-id.ensures, c.byte_at-set.ensures, c.starts_at-starts.ensures)
+returns c = rw (c.starts_at.ensures, c.number_at.ensures, c.byte_at.ensures)

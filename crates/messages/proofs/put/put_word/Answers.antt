@@ -1,9 +1,8 @@
--- `put::put_word` meets its contract: two stores of four bytes. Assumes nothing.
-use Rattle.messages.proofs.Stores.{word_stored}
+-- `put::put_word` meets its contract: its bytes are stored. Assumes nothing.
+use mathlib.Core.Path.{◌∙◌, ap}
+use lib.Seq.{sets}
+use Rattle.messages.proofs.Parts.{word_bytes}
 use Rattle.messages.proofs.put.put_word.Goals as goal
 
 pub returns : goal.returns
-returns c =
-    let the-put-low = c.put_low in
-    let the-put-low2 = c.put_low-2 in
-    word_stored _ _ _ _ _ the-put-low.ensures the-put-low2.ensures
+returns c = c.put_part.ensures ∙ ap (sets c.args.area.now c.args.at) (c.to_le_bytes.ensures ∙ word_bytes c.args.word)

@@ -3,20 +3,19 @@ use native.Mathlib.Omega.{arith}
 use mathlib.Core.Path.{refl}
 use Rattle.messages.proofs.Arms.{at_word, well_word}
 use Rattle.messages.proofs.Rows.{read_row}
+use Rattle.messages.proofs.Refused.{now_read}
 use Rattle.messages.specs.Layouts.{length_of}
 use Rattle.messages.proofs.reader.read_word.Goals as goal
 
 pub word_at-requires : goal.word_at-requires
 unfolding length_of
-word_at-requires c = omega (arith, c.requires.bytes_len)
+word_at-requires c = omega (arith, c.requires.long)
 
 pub returns : goal.returns
 returns c =
-    let a = c.args in
-    let asked = c.requires in
-    let the-word-at = c.word_at in
-    let the-of-word = c.of_word in
-    let the-give = c.give in
-    read_row a.bytes.now a.fields.now 2 the-of-word.result asked.bytes_value
-    (at_word a.bytes.now 2 _ _ refl the-word-at.ensures the-of-word.ensures) the-give.new.fields
-    asked.fields_len asked.bytes_len (well_word _ _ the-of-word.ensures) the-give.ensures
+    let bs = c.args.bytes.now in
+    let fs = c.args.fields.now in
+    now_read bs fs c.give.new.fields
+    (read_row bs fs 2 c.of_word.result c.requires.first
+    (at_word bs 2 _ _ refl c.word_at.ensures c.of_word.ensures)
+    c.give.new.fields c.told-fields c.requires.long (well_word _ _ c.of_word.ensures) c.give.ensures)

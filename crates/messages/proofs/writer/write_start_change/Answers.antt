@@ -1,82 +1,33 @@
 -- `writer::write_start_change` meets its contract: the kind, the number and the set are stored. Assumes nothing.
 use native.Mathlib.Omega.{arith}
-use mathlib.Core.Path.{refl}
-use lib.ListN.{get_or}
-use Rattle.messages.proofs.Arms.{length_is, stored_start_change}
-use Rattle.messages.proofs.Rows.{unwritten_short}
-use Rattle.messages.proofs.Fits.{tested, unfit, fit, fit_low, fit_written}
+use Rattle.messages.proofs.Arms.{stored_start_change}
+use Rattle.messages.proofs.Fits.{fit_low, fit_written}
 use Rattle.messages.specs.Layouts.{length_of}
 use Rattle.messages.specs.Fields.{message_of}
-use mathlib.Core.Path.{ap}
-use mathlib.Core.Bool.{not}
 use Rattle.messages.proofs.writer.write_start_change.Goals as goal
 
-pub returns-then-area-lt6 : goal.returns-then-area-lt6
-unfolding length_of
-returns-then-area-lt6 c =
-    let a = c.args in
-    let asked = c.requires in
-    unwritten_short a.fields.now a.area.now 6 asked.fields_len c.if-area-lt6.true
-    (length_is (get_or a.fields.now 0 0) 5 6 asked.fields_value refl)
-
-pub returns-then-not-numbers_ok-cut_ok : goal.returns-then-not-numbers_ok-cut_ok
-returns-then-not-numbers_ok-cut_ok c =
-    let a = c.args in
-    let asked = c.requires in
-    let the-numbers-fit = c.numbers_fit-numbers_ok in
-    let the-cut-fits = c.cut_fits-cut_ok in
-    let the-view-fits = c.view_fits-view_ok in
-    unfit a.fields.now 5 (tested a.fields.now 5 asked.fields_value (omega arith) (omega arith))
-    the-numbers-fit.result the-cut-fits.result the-view-fits.result the-numbers-fit.ensures
-    the-cut-fits.ensures the-view-fits.ensures a.area.now asked.fields_len (ap not c.if-not-numbers_ok-cut_ok.true)
-
 pub overflow_cast-number : goal.overflow_cast-number
-overflow_cast-number c =
-    let a = c.args in
-    let asked = c.requires in
-    let the-numbers-fit = c.numbers_fit-numbers_ok in
-    let the-cut-fits = c.cut_fits-cut_ok in
-    let the-view-fits = c.view_fits-view_ok in
-    let the-if2 = c.if-not-numbers_ok-cut_ok in
-    record {
-      fits = (fit_low a.fields.now
-          (fit a.fields.now 5 (tested a.fields.now 5 asked.fields_value (omega arith) (omega arith))
-          the-numbers-fit.result the-cut-fits.result the-view-fits.result the-numbers-fit.ensures
-          the-cut-fits.ensures the-view-fits.ensures (ap not the-if2.false))).number_low;
-    }
+overflow_cast-number c = record { fits = (fit_low c.args.fields.now c.in_ok-test.ensures.ok.fit).number_low }
 
 pub overflow_cast-set : goal.overflow_cast-set
-overflow_cast-set c =
-    let a = c.args in
-    let asked = c.requires in
-    let the-numbers-fit = c.numbers_fit-numbers_ok in
-    let the-cut-fits = c.cut_fits-cut_ok in
-    let the-view-fits = c.view_fits-view_ok in
-    let the-if2 = c.if-not-numbers_ok-cut_ok in
-    record {
-      fits = (fit_low a.fields.now
-          (fit a.fields.now 5 (tested a.fields.now 5 asked.fields_value (omega arith) (omega arith))
-          the-numbers-fit.result the-cut-fits.result the-view-fits.result the-numbers-fit.ensures
-          the-cut-fits.ensures the-view-fits.ensures (ap not the-if2.false))).set_low;
-    }
+overflow_cast-set c = record { fits = (fit_low c.args.fields.now c.in_ok-test.ensures.ok.fit).set_low }
+
+pub put_byte-requires : goal.put_byte-requires
+unfolding length_of
+put_byte-requires c = omega (arith, c.in_ok-test.ensures.ok.room)
+
+pub put_number-requires : goal.put_number-requires
+unfolding length_of
+put_number-requires c = omega (arith, c.in_ok-test.ensures.ok.room)
+
+pub put_byte-requires-2 : goal.put_byte-requires-2
+unfolding length_of
+put_byte-requires-2 c = omega (arith, c.in_ok-test.ensures.ok.room)
 
 pub returns : goal.returns
-unfolding message_of length_of
+unfolding message_of
 returns c =
-    let a = c.args in
-    let asked = c.requires in
-    let the-if1 = c.if-area-lt6 in
-    let the-numbers-fit = c.numbers_fit-numbers_ok in
-    let the-cut-fits = c.cut_fits-cut_ok in
-    let the-view-fits = c.view_fits-view_ok in
-    let the-if2 = c.if-not-numbers_ok-cut_ok in
-    let the-put-byte = c.put_byte in
-    let the-put-number = c.put_number in
-    let the-put-byte2 = c.put_byte-2 in
-    fit_written a.fields.now a.area.now 5 6 the-put-byte.new.area the-put-byte2.new.area
-    (fit a.fields.now 5 (tested a.fields.now 5 asked.fields_value (omega arith) (omega arith))
-    the-numbers-fit.result the-cut-fits.result the-view-fits.result the-numbers-fit.ensures
-    the-cut-fits.ensures the-view-fits.ensures (ap not the-if2.false))
-    asked.fields_len asked.fields_value the-if1.false refl the-put-byte.ensures
-    (stored_start_change (message_of a.fields.now) the-put-byte.new.area the-put-number.new.area
-    the-put-byte2.new.area asked.fields_value the-put-number.ensures the-put-byte2.ensures)
+    let fs = c.args.fields.now in
+    let t = c.in_ok-test.ensures.ok in
+    fit_written fs c.args.area.now 5 c.put_byte.new.area c.put_byte-2.new.area t.fit c.told-fields c.requires t.room (rw c.into.ensures at c.put_byte.ensures)
+    (stored_start_change (message_of fs) c.put_byte.new.area c.put_number.new.area c.put_byte-2.new.area c.requires c.put_number.ensures c.put_byte-2.ensures)

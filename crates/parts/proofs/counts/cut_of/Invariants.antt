@@ -2,15 +2,10 @@
 use Rattle.below.specs.Below.{fill_below}
 use lib.ListN.{replicate}
 use mathlib.Core.Bool.{cond}
+use mathlib.Core.Path.{◌≡◌}
 use Rattle.views.specs.Sets.{has}
 use Rattle.marks.specs.Marks.{run_in}
-use Prim.Native.Nat.{◌≤◌, ◌-◌}
-use mathlib.Core.Path.{◌≡◌}
-use lib.ListN.{length}
 use Rattle.parts.proofs.counts.cut_of.Given as goal
 
 abbrev pub invariant-loop-r : goal.invariant-loop-r
-invariant-loop-r l = (l.r ≤ 8) × ((length l.counts ≡ 8) × (l.counts ≡ fill_below (λ k. cond (has l.set k) (run_in l.m k) 0) (replicate 8 0) l.r))
-
-abbrev pub decreases-loop-r : goal.decreases-loop-r
-decreases-loop-r l = 8 - l.r
+invariant-loop-r l = l.counts ≡ fill_below (λ k. cond (has l.set k) (run_in l.m k) 0) (replicate 8 0) l.r

@@ -1,13 +1,9 @@
--- `row_fits` meets its contract: at once where all marks are 0, and else by a loop that tests all. Assumes nothing.
+-- `row_fits` meets its contract: a loop that tests all. Assumes nothing.
 use Rattle.below.specs.Below.{all_below}
-use Prim.Native.Nat.{◌≤◌, ◌-◌}
 use mathlib.Core.Path.{◌≡◌}
 use lib.Dec.{leb}
 use lib.ListN.{get_or}
 use Rattle.parts.proofs.counts.row_fits.Given as goal
 
-abbrev pub invariant-loop-r : goal.invariant-loop-r
-invariant-loop-r l = (l.r ≤ 8) × (l.ok ≡ all_below (λ k. leb (get_or l.row.marks k 0) 128) l.r)
-
-abbrev pub decreases-loop-r : goal.decreases-loop-r
-decreases-loop-r l = 8 - l.r
+abbrev pub invariant-loop-mark : goal.invariant-loop-mark
+invariant-loop-mark l = l.ok ≡ all_below (λ k. leb (get_or l.mark-items k 0) 128) l.mark-index

@@ -1,49 +1,30 @@
--- `others_fit` meets its contract: a loop that tests all. Assumes nothing.
-use mathlib.Core.Bool.{◌||◌, not}
-use mathlib.Core.Path.{◌≡◌, ◌∙◌, ap}
-use lib.Dec.{eqb}
-use lib.ListN.{get_or, length}
-use Rattle.below.proofs.All.{acc_none, acc_end, acc_more}
+-- `others_fit` meets its contract: the senders passed fit. Assumes nothing.
+use mathlib.Core.Path.{◌≡◌, sym, ◌∙◌}
+use lib.ListN.{length}
 use Rattle.marks.proofs.Slot.{array_length}
-use Rattle.parts.specs.Others.{other_fits}
-use Rattle.parts.proofs.Elements.{past_view, others_any, other_is, fits_current, fits_idle, fits_slot}
+use Rattle.below.proofs.All.{all_none, all_more, all_stop, all_done}
+use Rattle.parts.proofs.Elements.{own_fits, one_fits, one_fails, others_any}
 use borrow.Author.Rules.{rules}
 use Rattle.parts.proofs.others.others_fit.Goals as goal
-use Rattle.parts.proofs.others.others_fit.Goals.{then-not-same+then-not-idle, then-not-same+else-not-idle, else-not-same}
+use Rattle.parts.proofs.others.others_fit.Goals.{else-q-at-via-then-q-at+else-not-other_fits, else-q-at-via-else-q-at}
 
 pub loop-q-init : goal.loop-q-init
-loop-q-init c = (search rules, acc_none _)
+loop-q-init c = all_none _
+
+pub returns-then-not-other_fits : goal.returns-then-not-other_fits
+returns-then-not-other_fits c =
+    let n : length c.args.heard.now ≡ 8 = search (rules, array_length) in
+    sym (all_stop _ 8 c.loop-q.q c.loop-q-test.true (one_fails _ _ _ c.if-q-at.true _ c.other_fits.ensures c.if-not-other_fits.true)) ∙
+    others_any _ _ _ _ _ c.args.heard.now c.args.received.now n
 
 pub loop-q-preserved : goal.loop-q-preserved
 loop-q-preserved c =
-    let a = c.args in
-    let the-well-formed = c.well_formed-good in
-    let l = c.loop-q in
-    let s = c.same in
-    let the-if1 = c.if-not-same in
-    let v = get_or a.heard l.q past_view in (
-      search rules,
-      acc_more
-          (λ k. eqb k a.p || other_fits a.p a.current a.latest a.pending a.tags
-          (get_or a.heard k past_view) (get_or a.received.now k 0))
-          _ _ _ l.invariant.1
-          (other_is a.p a.current a.latest a.pending a.tags v _ _ _
-          (elim the-if1.branch [
-            | then-not-same+then-not-idle w ↦ w.fits-is ∙ fits_slot a.p a.current a.latest a.pending a.tags v _ s.ensures (ap not w.if-not-same.true) _
-                w.well_formed-fits.ensures _ w.idle.ensures _ (ap not w.if-not-idle.true) w.slot_in.ensures.value
-            | then-not-same+else-not-idle w ↦ w.fits-is ∙ fits_idle a.p a.current a.latest a.pending a.tags v _ s.ensures (ap not w.if-not-same.true) _
-                w.well_formed-fits.ensures _ w.idle.ensures (ap not w.if-not-idle.false)
-            | else-not-same w ↦ w.fits-is ∙ fits_current a.p a.current a.latest a.pending a.tags v _ s.ensures (ap not w.if-not-same.false)
-                _ the-well-formed.ensures
-          ])),
-    )
+    elim c.else-q-at.branch [
+      | else-q-at-via-then-q-at+else-not-other_fits w ↦ all_more _ _ c.loop-q.invariant (one_fits _ _ _ _ w.other_fits.ensures w.if-not-other_fits.false)
+      | else-q-at-via-else-q-at w ↦ all_more _ _ c.loop-q.invariant (own_fits _ _ _ w.if-q-at.false)
+    ]
 
 pub returns : goal.returns
 returns c =
-    let a = c.args in
-    let the-loop = c.loop-q in
-    let e : length a.heard ≡ 8 = search (rules, array_length) in
-    acc_end
-    (λ k. eqb k a.p || other_fits a.p a.current a.latest a.pending a.tags
-    (get_or a.heard k past_view) (get_or a.received.now k 0))
-    8 _ _ (search rules) (search rules) the-loop.invariant.1 ∙ others_any _ _ _ _ _ _ _ e
+    let n : length c.args.heard.now ≡ 8 = search (rules, array_length) in
+    sym (all_done _ 8 c.loop-q.q c.loop-q.auto.q-end c.loop-q-test.false c.loop-q.invariant) ∙ others_any _ _ _ _ _ c.args.heard.now c.args.received.now n

@@ -1,7 +1,6 @@
--- `others_fit` meets its contract: a loop that tests all. Assumes nothing.
-use Prim.Native.Nat.{◌≤◌, ◌-◌}
-use mathlib.Core.Bool.{◌||◌}
+-- `others_fit` meets its contract: the senders passed fit. Assumes nothing.
 use mathlib.Core.Path.{◌≡◌}
+use mathlib.Core.Bool.{true, ◌||◌}
 use lib.Dec.{eqb}
 use lib.ListN.{get_or}
 use Rattle.below.specs.Below.{all_below}
@@ -10,9 +9,5 @@ use Rattle.parts.proofs.Elements.{past_view}
 use Rattle.parts.proofs.others.others_fit.Given as goal
 
 abbrev pub invariant-loop-q : goal.invariant-loop-q
-invariant-loop-q l = (l.q ≤ 8) ×
-    (l.ok ≡ all_below
-    (λ k. eqb k l.p || other_fits l.p l.current l.latest l.pending l.tags (get_or l.heard k past_view) (get_or l.received k 0)) l.q)
-
-abbrev pub decreases-loop-q : goal.decreases-loop-q
-decreases-loop-q l = 8 - l.q
+invariant-loop-q l =
+    all_below (λ q. eqb q l.at.me || other_fits l.at.me l.at.current l.at.latest l.at.pending l.slots.tags (get_or l.heard q past_view) (get_or l.received q 0)) l.q ≡ true

@@ -2,17 +2,12 @@
 use Prim.Native.Nat.{ℕ}
 use mir.Val.{Fits}
 use mir.Syntax.{w8}
-use native.Mathlib.Omega.{arith}
-use lib.Bits.{and_le_r}
 use lib.ListN.{get_or}
 use Rattle.views.specs.Sets.{has}
 use Rattle.views.specs.Cuts.{cut_ok}
 use Rattle.views.proofs.Words.{word_fits_lem}
 use borrow.Author.Rules.{rules}
 use Rattle.views.proofs.Cut.well_formed.Goals as goal
-
-pub overflow_add-t : goal.overflow_add-t
-overflow_add-t c = omega (arith, and_le_r c.packed-c.result 0x7f7f7f7f7f7f7f7f)
 
 pub returns : goal.returns
 unfolding cut_ok

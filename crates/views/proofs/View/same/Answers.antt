@@ -1,17 +1,8 @@
--- `View::same` meets its contract, by the branch that was taken. Assumes nothing.
-use Rattle.below.proofs.Tests.{picks}
-use Rattle.views.specs.Views.{same}
+-- `View::same` meets its contract: `==` of two views. Assumes nothing.
+use mathlib.Core.Path.{◌∙◌}
 use borrow.Author.Rules.{rules}
+use Rattle.views.proofs.Sameness.{views_tested}
 use Rattle.views.proofs.View.same.Goals as goal
 
-pub returns-then-self-other : goal.returns-then-self-other
-unfolding same
-returns-then-self-other c = search (rules, picks)
-
-pub returns-then-self-other-2 : goal.returns-then-self-other-2
-unfolding same
-returns-then-self-other-2 c = search (rules, picks)
-
 pub returns : goal.returns
-unfolding same
-returns c = search (rules, picks)
+returns c = c.eq.ensures ∙ views_tested c.args.self c.args.other (search rules) (search rules)

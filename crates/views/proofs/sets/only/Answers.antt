@@ -6,5 +6,5 @@ use Rattle.views.proofs.sets.only.Goals as goal
 pub returns-then-n-lt8 : goal.returns-then-n-lt8
 returns-then-n-lt8 c = only_shift c.args.n (search rules)
 
-pub returns : goal.returns
-returns c = only_none c.args.n (search rules)
+pub returns-else-n-lt8 : goal.returns-else-n-lt8
+returns-else-n-lt8 c = only_none c.args.n (search rules)

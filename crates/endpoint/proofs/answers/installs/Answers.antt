@@ -1,5 +1,0 @@
--- `installs` meets its contract. Assumes nothing.
-use Rattle.endpoint.proofs.answers.installs.Goals as goal
-
-pub returns : goal.returns
-returns c = rw (c.apart-e.ensures, c.blank.ensures)

@@ -1,5 +1,0 @@
--- `keeps` meets its contract. Assumes nothing.
-use Rattle.endpoint.proofs.answers.keeps.Goals as goal
-
-pub returns : goal.returns
-returns c = rw (c.apart-e.ensures, c.blank.ensures, c.none.ensures)

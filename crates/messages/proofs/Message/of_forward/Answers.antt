@@ -1,5 +1,0 @@
--- `Message::of_forward` meets its contract: a blank message with these parts. Assumes nothing.
-use Rattle.messages.proofs.Message.of_forward.Goals as goal
-
-pub returns : goal.returns
-returns c = rw c.blank-m.ensures

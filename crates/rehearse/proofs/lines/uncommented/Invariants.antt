@@ -1,7 +1,0 @@
--- `lines::uncommented` is safe, and ends. Assumes nothing.
-use Prim.Native.Nat.{◌-◌}
-use lib.ListN.{length}
-use Rattle.rehearse.proofs.lines.uncommented.Given as goal
-
-abbrev pub decreases-loop-i : goal.decreases-loop-i
-decreases-loop-i l = length l.line - l.i

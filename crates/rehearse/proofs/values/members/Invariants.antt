@@ -1,7 +1,0 @@
--- `values::members` is safe, and ends. Assumes nothing.
-use Prim.Native.Nat.{◌-◌}
-use lib.ListN.{length}
-use Rattle.rehearse.proofs.values.members.Given as goal
-
-abbrev pub decreases-loop-i : goal.decreases-loop-i
-decreases-loop-i l = length l.field - l.i

@@ -1,6 +1,0 @@
--- `values::view` is safe, and ends. Assumes nothing.
-use Prim.Native.Nat.{◌-◌}
-use Rattle.rehearse.proofs.values.view.Given as goal
-
-abbrev pub decreases-loop-n : goal.decreases-loop-n
-decreases-loop-n l = 8 - l.n
