@@ -29,7 +29,7 @@ pub count_or_none : (b : Bool) (x : Cut) (r : ℕ) → count_of (cond b x no_cut
 count_or_none true x r = refl
 count_or_none false x r = count_none r
 
--- ---- `let mut c = Cut::none(); while i < n { c = raise(c, g(..)); i += 1; } c`
+-- ---- `let mut c = Cut::none(); for i in 0..n { c = higher(c, g(..)); } c`
 
 module _ (f : ℕ → Cut) where
   pub tops_at : (n r : ℕ) → r < 8 → count_of (tops f n) r ≡ largest_below (λ m. count_of (f m) r) n

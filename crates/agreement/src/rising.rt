@@ -5,6 +5,7 @@ ghost use Rattle.agreement.specs.Tops.{higher, tops, cut_or_none};
 use crate::Agreement;
 use views::{Cut, sets};
 
+// A loop: by a chain the answer took eight steps.
 pub(crate) fn higher(a: Cut, b: Cut) -> Cut
     ensures { result ≡ higher a b }
 {

@@ -1,4 +1,4 @@
--- What receive's plans and effects need of the definitions, in the shape in which the code has it. In order: a table's number and effect together with the area;
+-- What receive's changes need of the definitions, in the shape in which the code has it. In order: a table's number and effect together with the area;
 -- what soundness says; a message that passed the first check; a view, a word, a sync, a forward; the four together. Assumes nothing.
 use Prim.Native.Nat.{ℕ, ◌≤◌, ◌<◌}
 use native.Mathlib.Omega.{arith}

@@ -1,7 +1,7 @@
 -- "The lowest number that applies is given; a check is made only when all lower ones passed"; "a refusal gives only its number; the end-point and every lent area are as before".
 --   verdict-given, verdict-lowest : the number given applies, and no lower one does, for any table that rises.
 --   checks-rise : the table of each of the thirteen steps rises.
---   refused-keeps, accepted-effect : what a refused and an accepted step leave, by one lemma over the table.
+--   refused_keeps, accepted_effect : what a refused and an accepted step leave, by one lemma over the table.
 -- Assumes nothing.
 use Prim.Native.Nat.{ℕ, ◌≤◌, ◌<◌}
 use native.Mathlib.Omega.{arith}

@@ -66,6 +66,7 @@ impl EndPoint {
         self.answer(Ok(Given::nothing()))
     }
 
+    // This and the three below name what a step gives, a literal each over `answer`: one function with four Options would be no plainer.
     // Accepted, with a message to a set.
     pub(crate) fn sends(&self, set: u8, message: Message) -> Answer
         ensures { result ≡ sends_of self.now set message }

@@ -66,6 +66,7 @@ impl EndPoint {
     pub fn batch(mut self, area: &[u64], q: u8, out: &mut [u64]) -> Batch
         ensures { (result ≡ batch_answer self area.now q (length out.old)) × (out.new ≡ batch_area self area.now q out.old) }
     {
+        // By return, as the steps: see EndPoint::refused.
         let last = match self.batch_place(area, q) {
             Ok(last) => last,
             Err(refusal) => {

@@ -22,6 +22,7 @@ impl EndPoint {
         ensures { MatchResult result (λ p. (unreceivable self.now area.now q m ≡ false) × Fits self.now area.now p.0 × (m.kind ≡ code_of p.1)) (λ r. (unreceivable self.now area.now q m ≡ true) × (number_of r ≡ 1)) }
     {
         let slot = self.fit(area)?;
+        // By number, as `unreceivable` has it: a second test once the kind is named would be no plainer.
         if q > 7 || q == self.me || !m.well_formed() || m.kind > 4 {
             return Err(Refusal::Unfit);
         }
@@ -33,6 +34,7 @@ impl EndPoint {
     }
 
     // The view that q announced last.
+    // q is tested by who calls: a type for member numbers would be taken apart at once, since C's is a u8.
     fn announced(&self, q: u8) -> View
         requires { q < 8 }
         ensures { result ≡ heard_from self.now q }
@@ -169,6 +171,7 @@ impl EndPoint {
         ensures area { Changes (receive_checks self.old area.old q m) area.old (area_after_receive self.old area.old q m) area.new result }
     {
         let (slot, kind) = self.check_message(area, q, m)?;
+        // The last arm is a forward: check_message lets no other kind through.
         match kind {
             Kind::View => self.take_view(q, m.view),
             Kind::Word => self.take_word(area, q, m.word),

@@ -14,6 +14,7 @@ use crate::{Kind, Message, Refusal};
 pub fn length_of(kind: u8) -> u8
     ensures { result ≡ length_of kind }
 {
+    // By match: with map_or the proof did not close.
     match Kind::try_from(kind) {
         Ok(kind) => kind.length(),
         Err(_) => 0,

@@ -63,7 +63,7 @@ impl Message {
             && set_fits(kind, self.set)
     }
 
-    // Whether each part of the message is one that the kind may have.
+    // Whether each part of the message is one that the kind may have. The kind is named once by who calls: a struct of both would be made for three private calls.
     #[tactic(auto, using(below::proofs::Tests::picks), unfolding(crate::specs::Layouts::well_formed))]
     pub(crate) fn fits(self, kind: Kind) -> bool
         requires { self.kind ≡ code_of kind }

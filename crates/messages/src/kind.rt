@@ -73,6 +73,7 @@ impl Kind {
         }
     }
 
+    // Which parts a kind has, a test each: the layouts' own list.
     #[inline(always)]
     pub(crate) fn has_number(self) -> bool
         ensures { result ≡ has_number (code_of self) }

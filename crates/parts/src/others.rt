@@ -14,7 +14,7 @@ fn idle(at: &Standing, v: View) -> bool
     v.id == 0 || at.has_spent(v)
 }
 
-// Whether an announced view is well formed and has the slot that it asks for. The current one is as good as it is, and asks for none.
+// Whether an announced view is well formed and has the slot that it asks for. The current one is as good as it is, and asks for none. good is worked out once, as in slots' Standing::keeps.
 #[tactic(auto, using(crate::proofs::Elements::fits_current, crate::proofs::Elements::fits_idle, crate::proofs::Elements::fits_slot))]
 fn view_fits(at: &Standing, good: bool, slots: &Slots, v: View) -> bool
     requires { good ≡ view_ok at.now.current }

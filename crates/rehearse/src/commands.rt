@@ -14,7 +14,7 @@ pub(crate) enum Command<'s> {
     At(u8, &'s [&'s [u8]]),
 }
 
-// What is asked of one end-point: its steps, and two ways to look at it.
+// What is asked of one end-point: its steps, and two ways to look at it. Data, played by one match in desk.
 #[derive(Clone, Copy)]
 pub(crate) enum Step {
     Send(u64),

@@ -45,6 +45,7 @@ pub(crate) enum Fault {
 #[derive(Clone, Copy, Debug)]
 pub(crate) struct Refused(pub Refusal);
 
+// The words are rehearse's: the library gives the number and its name.
 fn reason(refusal: Refusal) -> &'static str {
     match refusal {
         Refusal::Unfit => "malformed, unsound or from oneself",

@@ -2,7 +2,7 @@
 use messages::Message;
 use std::fmt;
 
-// A message's bytes, as many as its kind has, and zeros after them.
+// A message's bytes, as many as its kind has, and zeros after them. An array, longer than any message: it is copied into each channel, where a Vec would be cloned and could fail.
 #[derive(Clone, Copy)]
 pub(crate) struct Packet([u8; 64]);
 

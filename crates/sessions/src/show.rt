@@ -5,7 +5,7 @@ use std::fmt::{Display, Write};
 use std::io::Stdout;
 use std::{fmt, io};
 
-// Standard output, and the first error of a write to it. What follows a failed write is played and written all the same.
+// Standard output, and the first error of a write to it. What follows a failed write is played and written all the same. As rehearse's Transcript: a crate for the four lines that they share would be no plainer.
 #[derive(Drop)]
 pub(crate) struct Output {
     out: Stdout,

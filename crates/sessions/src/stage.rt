@@ -1,7 +1,7 @@
 // Where the sessions are played: an end-point, its word area, the output. Each step has its line: what was done, the number, what it gave.
 use crate::show::Output;
 use endpoint::{Answer, EndPoint};
-use messages::Message;
+use messages::{Kind, Message};
 use std::fmt::Display;
 use std::io;
 use std::io::Stdout;
@@ -97,7 +97,7 @@ impl Stage {
     }
 
     pub(crate) fn receive_view(&mut self, q: u8, v: View) {
-        self.receive("view", q, Message::of_view(1, v));
+        self.receive("view", q, Message::of_view(Kind::View.into(), v));
     }
 
     // Word i of member 2.

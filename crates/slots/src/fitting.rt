@@ -66,6 +66,7 @@ impl Slots {
         ensures { result ≡ slots_fit at.now.me at.now.current at.now.latest at.now.pending self.now }
     {
         let good = at.current.well_formed();
+        // By index: what a zip gives is not told at the step.
         for (s, tag) in self.tags.iter().enumerate() {
             if !tag.fits(good, at, &self.marks[s]) {
                 return false;
