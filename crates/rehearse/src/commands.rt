@@ -1,8 +1,7 @@
 // A line's fields as a command, or what is wrong with them.
-use crate::fault::{Fault, Problem};
+use crate::fault::Fault;
 use crate::{packet, values};
 use messages::Message;
-use std::alloc::Global;
 use views::View;
 
 // The first number is the end-point's; a channel goes from the first to the second. A step's fields are read once its end-point is known.
@@ -56,6 +55,11 @@ fn room(field: &[u8]) -> Result<u8, Fault> {
     Ok(words)
 }
 
+fn message_in(hex: &[u8]) -> Result<Message, Fault> {
+    let mut room = [0u8; 64];
+    Ok(packet::message_of(values::bytes(hex, &mut room)?))
+}
+
 impl<'s> Command<'s> {
     pub(crate) fn read(fields: &'s [&'s [u8]]) -> Result<Command<'s>, Fault> {
         match fields {
@@ -96,7 +100,7 @@ fn plain(name: &[u8]) -> Option<Step> {
 
 impl Step {
     // The fields after the end-point's number.
-    pub(crate) fn read(alloc: Global, fields: &[&[u8]]) -> Result<Step, Problem> {
+    pub(crate) fn read(fields: &[&[u8]]) -> Result<Step, Fault> {
         match fields {
             [b"send", w] => Ok(Step::Send(values::number(w).ok_or(Fault::Word)?)),
             [b"receive", q] => Ok(Step::Receive(member(q)?)),
@@ -107,8 +111,7 @@ impl Step {
             )),
             [b"bytes", q, hex] => {
                 let q = member(q)?;
-                let bytes = values::bytes(alloc, hex)?;
-                Ok(Step::Bytes(q, packet::message_of(bytes.as_slice())))
+                Ok(Step::Bytes(q, message_in(hex)?))
             }
             [b"forward", q, r] => Ok(Step::Forward(member(q)?, member(r)?)),
             [b"batch", q, k] => Ok(Step::Batch(member(q)?, room(k)?)),
@@ -126,15 +129,15 @@ impl Step {
                 | b"batch"
                 | b"view",
                 ..
-            ] => Err(Fault::Count.into()),
+            ] => Err(Fault::Count),
             [name, more @ ..] => {
                 let step = plain(name).ok_or(Fault::Name)?;
                 if !more.is_empty() {
-                    return Err(Fault::Count.into());
+                    return Err(Fault::Count);
                 }
                 Ok(step)
             }
-            [] => Err(Fault::Name.into()),
+            [] => Err(Fault::Name),
         }
     }
 }

@@ -5,16 +5,19 @@ use crate::fault::{Fault, Problem, Refused};
 use crate::packet::Packet;
 use crate::reply::Reply;
 use endpoint::{Answer, EndPoint, Refusal};
-use std::alloc::Global;
+use messages::Message;
+use views::View;
 
 // How many words an area has room for.
 const AREA: usize = 4096;
 
-#[derive(Drop)]
+// Its end-point is none until it is made; its words are those of the last batch.
+#[derive(Clone, Copy)]
 pub(crate) struct Desk {
-    alloc: Global,
+    pub(crate) made: bool,
     pub(crate) point: EndPoint,
-    pub(crate) area: Vec<u64>,
+    pub(crate) area: [u64; AREA],
+    words: [u64; 128],
 }
 
 // A step's number, 0 where it is accepted.
@@ -26,15 +29,26 @@ fn accepted(number: u8) -> Result<(), Problem> {
 }
 
 impl Desk {
-    // The word area is all zero at first.
-    pub(crate) fn fresh(alloc: Global, me: u8) -> Result<Desk, Problem> {
+    // A place for an end-point: its word area is all zero at first.
+    pub(crate) fn unmade() -> Desk {
+        Desk {
+            made: false,
+            point: EndPoint::fresh(0).ep,
+            area: [0u64; AREA],
+            words: [0u64; 128],
+        }
+    }
+
+    #[inline(never)]
+    pub(crate) fn fresh(&mut self, me: u8) -> Result<Reply<'_>, Problem> {
+        if self.made {
+            return Err(Fault::Made.into());
+        }
         let answer = EndPoint::fresh(me);
         accepted(answer.number)?;
-        Ok(Desk {
-            alloc,
-            point: answer.ep,
-            area: vec![in alloc; 0u64; AREA]?,
-        })
+        self.point = answer.ep;
+        self.made = true;
+        Ok(Reply::Done)
     }
 
     // The end-point is as the step left it.
@@ -57,50 +71,113 @@ impl Desk {
             return Err(Fault::Full.into());
         }
         let packet = Packet::of(answer.message);
-        channels.send(me, answer.set, packet)?;
+        channels.send(me, answer.set, packet);
         self.point = answer.ep;
         Ok(Reply::Sent(answer.set, packet))
     }
 
+    // Each step is a function that is never inlined: one pays at entry for the size of its locals, and an answer is large.
+    #[inline(never)]
+    fn send(&mut self, w: u64) -> Result<Reply<'_>, Problem> {
+        let answer = self.point.send(&mut self.area, w);
+        self.plain(&answer)
+    }
+
+    #[inline(never)]
+    fn block_ok(&mut self) -> Result<Reply<'_>, Problem> {
+        let answer = self.point.block_ok();
+        self.plain(&answer)
+    }
+
+    #[inline(never)]
+    fn start(&mut self, n: u32, set: u8) -> Result<Reply<'_>, Problem> {
+        let answer = self.point.start_change(n, set);
+        self.plain(&answer)
+    }
+
+    #[inline(never)]
+    fn view(&mut self, view: View) -> Result<Reply<'_>, Problem> {
+        let answer = self.point.membership_view(view);
+        self.plain(&answer)
+    }
+
     // The message at the head of the channel from q, which leaves it where it is accepted.
+    #[inline(never)]
     fn receive(&mut self, q: u8, channels: &mut Channels) -> Result<Reply<'_>, Problem> {
         let me = self.point.me;
         if 7 < q || q == me {
             return Err(Problem::Refused(Refused(Refusal::Unfit)));
         }
         let packet = channels.head(q, me).ok_or(Fault::Empty)?;
-        let answer = self
-            .point
-            .receive(self.area.as_mut_slice(), q, packet.message());
+        let answer = self.point.receive(&mut self.area, q, packet.message());
         self.settle(&answer)?;
         channels.take(q, me);
         Ok(Reply::Done)
     }
 
+    #[inline(never)]
+    fn bytes(&mut self, q: u8, message: Message) -> Result<Reply<'_>, Problem> {
+        let answer = self.point.receive(&mut self.area, q, message);
+        self.plain(&answer)
+    }
+
+    #[inline(never)]
+    fn ask(&mut self) -> Result<Reply<'_>, Problem> {
+        let answer = self.point.ask_to_block();
+        self.plain(&answer)
+    }
+
+    #[inline(never)]
     fn declare(&mut self) -> Result<Reply<'_>, Problem> {
         let answer = self.point.declare();
         self.settle(&answer)?;
         Ok(Reply::Declared(answer.set))
     }
 
+    #[inline(never)]
+    fn announce(&mut self, channels: &mut Channels) -> Result<Reply<'_>, Problem> {
+        let answer = self.point.announce();
+        self.sends(&answer, channels)
+    }
+
+    #[inline(never)]
+    fn pass(&mut self, channels: &mut Channels) -> Result<Reply<'_>, Problem> {
+        let answer = self.point.pass_out(&self.area);
+        self.sends(&answer, channels)
+    }
+
+    #[inline(never)]
+    fn sync(&mut self, channels: &mut Channels) -> Result<Reply<'_>, Problem> {
+        let answer = self.point.sync();
+        self.sends(&answer, channels)
+    }
+
+    #[inline(never)]
+    fn forward(&mut self, q: u8, r: u8, channels: &mut Channels) -> Result<Reply<'_>, Problem> {
+        let answer = self.point.forward(&self.area, q, r);
+        self.sends(&answer, channels)
+    }
+
+    #[inline(never)]
     fn give(&mut self, q: u8) -> Result<Reply<'_>, Problem> {
-        let answer = self.point.give_out(self.area.as_slice(), q);
+        let answer = self.point.give_out(&self.area, q);
         self.settle(&answer)?;
         Ok(Reply::Word(answer.word))
     }
 
     // As many words as there are, up to the room.
+    #[inline(never)]
     fn batch(&mut self, q: u8, room: u8) -> Result<Reply<'_>, Problem> {
-        let mut words = vec![in self.alloc; 0u64; usize::from(room)]?;
-        let batch = self
-            .point
-            .batch(self.area.as_slice(), q, words.as_mut_slice());
+        let words = self.words.get_mut(..usize::from(room)).ok_or(Fault::Room)?;
+        let batch = self.point.batch(&self.area, q, words);
         self.point = batch.ep;
         accepted(batch.number)?;
-        words.truncate(batch.count as usize);
-        Ok(Reply::Batch(words))
+        let words = self.words.as_slice();
+        let given = words.get(..batch.count as usize);
+        Ok(Reply::Batch(given.unwrap_or(words)))
     }
 
+    #[inline(never)]
     fn install(&mut self) -> Result<Reply<'_>, Problem> {
         let answer = self.point.install();
         self.settle(&answer)?;
@@ -112,32 +189,19 @@ impl Desk {
         step: Step,
         channels: &mut Channels,
     ) -> Result<Reply<'_>, Problem> {
-        let point = self.point;
         match step {
-            Step::Send(w) => {
-                let answer = point.send(self.area.as_mut_slice(), w);
-                self.plain(&answer)
-            }
-            Step::BlockOk => self.plain(&point.block_ok()),
-            Step::Start(n, set) => self.plain(&point.start_change(n, set)),
-            Step::View(view) => self.plain(&point.membership_view(view)),
+            Step::Send(w) => self.send(w),
+            Step::BlockOk => self.block_ok(),
+            Step::Start(n, set) => self.start(n, set),
+            Step::View(view) => self.view(view),
             Step::Receive(q) => self.receive(q, channels),
-            Step::Bytes(q, message) => {
-                let answer = point.receive(self.area.as_mut_slice(), q, message);
-                self.plain(&answer)
-            }
-            Step::Ask => self.plain(&point.ask_to_block()),
+            Step::Bytes(q, message) => self.bytes(q, message),
+            Step::Ask => self.ask(),
             Step::Declare => self.declare(),
-            Step::Announce => self.sends(&point.announce(), channels),
-            Step::Pass => {
-                let answer = point.pass_out(self.area.as_slice());
-                self.sends(&answer, channels)
-            }
-            Step::Sync => self.sends(&point.sync(), channels),
-            Step::Forward(q, r) => {
-                let answer = point.forward(self.area.as_slice(), q, r);
-                self.sends(&answer, channels)
-            }
+            Step::Announce => self.announce(channels),
+            Step::Pass => self.pass(channels),
+            Step::Sync => self.sync(channels),
+            Step::Forward(q, r) => self.forward(q, r, channels),
             Step::Give(q) => self.give(q),
             Step::Batch(q, room) => self.batch(q, room),
             Step::Install => self.install(),

@@ -1,6 +1,5 @@
 // Why a command has no effect.
 use endpoint::Refusal;
-use std::alloc::AllocError;
 use std::fmt;
 use thiserror::Error;
 
@@ -73,13 +72,11 @@ impl fmt::Display for Refused {
     }
 }
 
-// Nothing has happened, but where memory ran out.
-#[derive(Debug, Drop, Error)]
+// Nothing has happened.
+#[derive(Clone, Copy, Debug, Error)]
 pub(crate) enum Problem {
     #[error("{0}")]
     Refused(Refused),
     #[error("error {0}")]
     Wrong(#[from] Fault),
-    #[error(transparent)]
-    Memory(#[from(alloc)] AllocError),
 }

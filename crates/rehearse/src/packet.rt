@@ -2,7 +2,7 @@
 use messages::Message;
 use std::fmt;
 
-// A message's bytes, as many as its kind has, and zeros after them. An array, longer than any message: it is copied into each channel, where a Vec would be cloned and could fail.
+// A message's bytes, as many as its kind has, and zeros after them. An array, longer than any message: it is copied into each channel.
 #[derive(Clone, Copy)]
 pub(crate) struct Packet([u8; 64]);
 
@@ -12,6 +12,10 @@ pub(crate) fn message_of(bytes: &[u8]) -> Message {
 }
 
 impl Packet {
+    pub(crate) fn blank() -> Packet {
+        Packet([0u8; 64])
+    }
+
     // What an end-point sends is well formed, and fits.
     pub(crate) fn of(message: Message) -> Packet {
         let mut bytes = [0u8; 64];

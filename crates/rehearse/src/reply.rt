@@ -1,38 +1,31 @@
 // What an accepted command answers, in words.
+use crate::channels::Way;
 use crate::desk::Desk;
 use crate::packet::Packet;
-use crate::text::{Members, Spaced, ViewText};
-use std::collections::VecDeque;
+use crate::text::{Members, Spaced, ViewText, part};
 use std::fmt;
 use views::View;
 
-#[derive(Drop)]
+#[derive(Clone, Copy)]
 pub(crate) enum Reply<'a> {
     Done,
     Declared(u8),
     Sent(u8, Packet),
     Word(u64),
-    Batch(Vec<u64>),
+    Batch(&'a [u64]),
     Installed(View, u8),
     Shown(&'a Desk),
     Area(&'a [u64]),
-    Channel(Option<&'a VecDeque<Packet>>),
+    Channel(Option<&'a Way>),
 }
 
 // Each place of the area whose word is not zero.
 fn area<W: fmt::Write>(f: &mut fmt::Formatter<W>, area: &[u64]) -> fmt::Result {
     for (i, word) in area.iter().enumerate() {
         if *word != 0 {
-            write!(f, "\n  {i} {word}")?;
+            part(f, "\n  ", i)?;
+            part(f, " ", *word)?;
         }
-    }
-    Ok(())
-}
-
-// The messages in a channel, head first.
-fn channel<W: fmt::Write>(f: &mut fmt::Formatter<W>, way: &VecDeque<Packet>) -> fmt::Result {
-    for packet in way.iter() {
-        write!(f, "\n  {packet}")?;
     }
     Ok(())
 }
@@ -45,11 +38,11 @@ impl fmt::Display for Reply<'_> {
             Reply::Declared(set) => write!(f, " {}", Members(*set)),
             Reply::Sent(set, packet) => write!(f, " to {} {packet}", Members(*set)),
             Reply::Word(word) => write!(f, " {word}"),
-            Reply::Batch(words) => write!(f, " {}{}", words.len(), Spaced(words.as_slice())),
+            Reply::Batch(words) => write!(f, " {}{}", words.len(), Spaced(*words)),
             Reply::Installed(view, set) => write!(f, " {} T {}", ViewText(view), Members(*set)),
             Reply::Shown(desk) => write!(f, "{desk}"),
             Reply::Area(words) => area(f, words),
-            Reply::Channel(Some(way)) => channel(f, way),
+            Reply::Channel(Some(way)) => write!(f, "{way}"),
         }
     }
 }

@@ -1,11 +1,12 @@
 // The whole of an end-point in words, each of its lines after a line break.
 use crate::desk::Desk;
-use crate::text::{Members, Spaced, ViewText};
+use crate::text::{Members, Spaced, ViewText, part};
 use endpoint::{Change, EndPoint};
 use marks::Marks;
 use records::Records;
 use slots::Slots;
 use std::fmt;
+use std::fmt::Display;
 
 // The block state of the C interface: 0, 1 or 2.
 fn block_name(block: u8) -> &'static str {
@@ -17,36 +18,39 @@ fn block_name(block: u8) -> &'static str {
 }
 
 fn change<W: fmt::Write>(f: &mut fmt::Formatter<W>, change: &Change) -> fmt::Result {
-    let set = Members(change.set);
-    let block = block_name(change.block);
-    write!(f, "\n  start {} {set}", change.number)?;
-    write!(
-        f,
-        "\n  open {} pending {} block {block}",
-        change.opened, change.pending
-    )
+    part(f, "\n  start ", change.number)?;
+    f.write_str(" ")?;
+    Members(change.set).fmt(f)?;
+    part(f, "\n  open ", change.opened)?;
+    part(f, " pending ", change.pending)?;
+    f.write_str(" block ")?;
+    f.write_str(block_name(change.block))
 }
 
 // Its number, views, change, what it declared, passed out and gave out.
 fn own<W: fmt::Write>(f: &mut fmt::Formatter<W>, point: &EndPoint) -> fmt::Result {
-    write!(f, "\n  end-point {}", point.me)?;
-    write!(f, "\n  current {}", ViewText(&point.current))?;
-    write!(f, "\n  membership {}", ViewText(&point.membership))?;
+    part(f, "\n  end-point ", point.me)?;
+    f.write_str("\n  current ")?;
+    ViewText(&point.current).fmt(f)?;
+    f.write_str("\n  membership ")?;
+    ViewText(&point.membership).fmt(f)?;
     change(f, &point.change)?;
-    write!(f, "\n  declared {}", Members(point.declared))?;
-    write!(f, " announced {} passed {}", point.told, point.passed)?;
-    write!(f, "\n  given{}", Spaced(&point.given))
+    f.write_str("\n  declared ")?;
+    Members(point.declared).fmt(f)?;
+    part(f, " announced ", point.told)?;
+    part(f, " passed ", point.passed)?;
+    f.write_str("\n  given")?;
+    Spaced(&point.given).fmt(f)
 }
 
 // The view that each other member announced, and how many words came from it there.
 fn others<W: fmt::Write>(f: &mut fmt::Formatter<W>, point: &EndPoint) -> fmt::Result {
     for (q, (view, received)) in (0u8..).zip(point.heard.iter().zip(point.received.iter())) {
         if q != point.me {
-            write!(
-                f,
-                "\n  announced {q} {} received {received}",
-                ViewText(view)
-            )?;
+            part(f, "\n  announced ", q)?;
+            f.write_str(" ")?;
+            ViewText(view).fmt(f)?;
+            part(f, " received ", *received)?;
         }
     }
     Ok(())
@@ -56,8 +60,12 @@ fn others<W: fmt::Write>(f: &mut fmt::Formatter<W>, point: &EndPoint) -> fmt::Re
 fn records<W: fmt::Write>(f: &mut fmt::Formatter<W>, records: &Records) -> fmt::Result {
     for (q, (held, count)) in (0u8..).zip(records.held.chunks(4).zip(records.counts.iter())) {
         for x in held.iter().take(usize::from(*count)) {
-            write!(f, "\n  record {q} {} {}", x.number, ViewText(&x.view))?;
-            write!(f, " cut{}", Spaced(&x.cut.counts))?;
+            part(f, "\n  record ", q)?;
+            part(f, " ", x.number)?;
+            f.write_str(" ")?;
+            ViewText(&x.view).fmt(f)?;
+            f.write_str(" cut")?;
+            Spaced(&x.cut.counts).fmt(f)?;
         }
     }
     Ok(())
@@ -65,17 +73,20 @@ fn records<W: fmt::Write>(f: &mut fmt::Formatter<W>, records: &Records) -> fmt::
 
 fn forwarded<W: fmt::Write>(f: &mut fmt::Formatter<W>, point: &EndPoint) -> fmt::Result {
     for (q, row) in point.forwarded.iter().enumerate() {
-        write!(f, "\n  forwarded {q}{}", Spaced(&row.marks))?;
+        part(f, "\n  forwarded ", q)?;
+        Spaced(&row.marks).fmt(f)?;
     }
     Ok(())
 }
 
 fn tags<W: fmt::Write>(f: &mut fmt::Formatter<W>, slots: &Slots) -> fmt::Result {
     for (s, tag) in slots.tags.iter().enumerate() {
+        part(f, "\n  slot ", s)?;
         if tag.used == 0 {
-            write!(f, "\n  slot {s} free")?;
+            f.write_str(" free")?;
         } else {
-            write!(f, "\n  slot {s} {}", ViewText(&tag.view))?;
+            f.write_str(" ")?;
+            ViewText(&tag.view).fmt(f)?;
         }
     }
     Ok(())
@@ -88,12 +99,15 @@ fn words_in<W: fmt::Write>(
     held: &Marks,
     area: &[u64],
 ) -> fmt::Result {
-    for r in 0..8u8 {
-        for i in 1..=128u8 {
-            if held.holds(r, i)
+    for (r, row) in (0u8..).zip(held.rows.iter()) {
+        for i in 1..129u8 {
+            if row.holds(i)
                 && let Some(word) = area.get(slots::place(s, r, i))
             {
-                write!(f, "\n  word {s} {r} {i} {word}")?;
+                part(f, "\n  word ", s)?;
+                part(f, " ", r)?;
+                part(f, " ", i)?;
+                part(f, " ", *word)?;
             }
         }
     }
@@ -117,6 +131,6 @@ impl fmt::Display for Desk {
         records(f, &point.records)?;
         forwarded(f, point)?;
         tags(f, &point.slots)?;
-        words(f, &point.slots, self.area.as_slice())
+        words(f, &point.slots, &self.area)
     }
 }

@@ -1,7 +1,23 @@
-// How sets, views and lists of numbers are printed.
+// How numbers, sets, views and lists of numbers are printed.
+use itoa::{Buffer, Integer};
 use std::fmt;
 use std::fmt::Display;
 use views::{View, sets};
+
+// In decimal: itoa's digits, and no options to look at.
+pub(crate) fn number<W: fmt::Write, N: Integer>(f: &mut fmt::Formatter<W>, n: N) -> fmt::Result {
+    f.write_str(Buffer::new().format(n))
+}
+
+// A text, then a number.
+pub(crate) fn part<W: fmt::Write, N: Integer>(
+    f: &mut fmt::Formatter<W>,
+    before: &str,
+    n: N,
+) -> fmt::Result {
+    f.write_str(before)?;
+    number(f, n)
+}
 
 // As {0,2,5}.
 #[derive(Clone, Copy)]
@@ -9,15 +25,14 @@ pub(crate) struct Members(pub u8);
 
 impl Display for Members {
     fn fmt<W: fmt::Write>(&self, f: &mut fmt::Formatter<W>) -> fmt::Result {
-        let mut before = "";
-        write!(f, "{{")?;
+        let mut before = "{";
         for n in 0..8u8 {
             if sets::contains(self.0, n) {
-                write!(f, "{before}{n}")?;
+                part(f, before, n)?;
                 before = ",";
             }
         }
-        write!(f, "}}")
+        f.write_str(if self.0 == 0 { "{}" } else { "}" })
     }
 }
 
@@ -25,10 +40,10 @@ impl Display for Members {
 #[derive(Clone, Copy)]
 pub(crate) struct Spaced<'a, T>(pub &'a [T]);
 
-impl<T: Display> Display for Spaced<'_, T> {
+impl<T: Integer> Display for Spaced<'_, T> {
     fn fmt<W: fmt::Write>(&self, f: &mut fmt::Formatter<W>) -> fmt::Result {
         for item in self.0 {
-            write!(f, " {item}")?;
+            part(f, " ", *item)?;
         }
         Ok(())
     }
@@ -41,12 +56,9 @@ pub(crate) struct ViewText<'a>(pub &'a View);
 impl Display for ViewText<'_> {
     fn fmt<W: fmt::Write>(&self, f: &mut fmt::Formatter<W>) -> fmt::Result {
         let view = self.0;
-        write!(
-            f,
-            "{} {}{}",
-            view.id,
-            Members(view.set),
-            Spaced(&view.starts)
-        )
+        number(f, view.id)?;
+        f.write_str(" ")?;
+        Members(view.set).fmt(f)?;
+        Spaced(&view.starts).fmt(f)
     }
 }

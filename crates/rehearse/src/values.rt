@@ -1,7 +1,5 @@
 // A field's value: a number, a set of members, a view, bytes.
-use crate::fault::{Fault, Problem};
-use hex::FromHexError;
-use std::alloc::{AllocError, Global};
+use crate::fault::Fault;
 use views::{View, sets};
 
 // Decimal, or hexadecimal after 0x. A sign is no digit, so this is not `parse`.
@@ -63,14 +61,21 @@ pub(crate) fn view(id: &[u8], members: &[u8], starting: &[&[u8]]) -> Option<View
     Some(View { starts, id, set })
 }
 
-// Two digits a byte, or - for none.
-pub(crate) fn bytes(alloc: Global, field: &[u8]) -> Result<Vec<u8>, Problem> {
-    if field == b"-".as_slice() {
-        return Ok(Vec::new(alloc));
+// How many digits the room has place for.
+const DIGITS: usize = 128;
+
+// Two digits a byte, or - for none. What the room has no place for is checked, and left out: a longer message is no message, and a full room is none either.
+pub(crate) fn bytes<'r>(field: &[u8], room: &'r mut [u8; 64]) -> Result<&'r [u8], Fault> {
+    let digits = if field == b"-".as_slice() {
+        b"".as_slice()
+    } else {
+        field
+    };
+    let (kept, beyond) = digits.split_at(digits.len().min(DIGITS));
+    if beyond.len() % 2 == 1 || !beyond.iter().all(|b| b.is_ascii_hexdigit()) {
+        return Err(Fault::Bytes);
     }
-    match hex::decode(alloc, field) {
-        Ok(bytes) => Ok(bytes),
-        Err(FromHexError::OutOfMemory) => Err(AllocError.into()),
-        Err(_) => Err(Fault::Bytes.into()),
-    }
+    let bytes = &mut room[..kept.len() / 2];
+    hex::decode_to_slice(kept, bytes).map_err(|_| Fault::Bytes)?;
+    Ok(bytes)
 }
