@@ -1,15 +1,16 @@
 -- A batch in one pass is so many single give-outs. In order: where the give-outs end; the end-point after some of them is sound; the words;
 -- the batch by induction on its room; what the method has to show of its answer; the words that it copies. Assumes nothing.
-use Prim.Native.Nat.{ℕ, zero, suc, ◌+◌, ◌-◌, ◌≤◌, ◌<◌, min}
-use native.Mathlib.Nat.{eq-or-lt_of_le}
+use Prim.Native.Nat.{ℕ, zero, suc, ◌+◌, ◌-◌, ◌*◌, ◌≤◌, ◌<◌, min}
+use native.Mathlib.Nat.{eq-or-lt_of_le, le_antisymm}
+use native.Mathlib.Numerals.{add-one}
 use native.Mathlib.Omega.{arith}
 use mathlib.Core.Bool.{Bool, true, false, not, cond, ◌&&◌, ◌||◌}
-use mathlib.Core.List.{List, [], ◌∷◌, ◌++◌}
+use mathlib.Core.List.{List, [], ◌∷◌, ◌++◌, append_assoc}
 use mathlib.Core.Logic.{⊎_elim}
-use mathlib.Core.Path.{◌≡◌, refl, sym, ap, ◌∙◌}
+use mathlib.Core.Path.{◌≡◌, refl, sym, ap, subst, ◌∙◌}
 use lib.Dec.{eqb, ltb, leb}
 use lib.ListN.{length, get_or, set, take, drop, length-set, length-drop}
-use lib.Seq.{get_or-set_same, get_or-set_other, set-get_or, set-set, take-suc}
+use lib.Seq.{get_or-set_same, get_or-set_other, set-get_or, set-set, set_at, drop-cons, take-suc}
 use Rattle.std.proofs.lemmas.List.{get_or-drop}
 use borrow.Author.Tests.{eqb-true, leb-true, le-leb, ltb-true, ltb-false, lt-ltb, le-ltb, lt-leb, eq-eqb, ne_eqb}
 use Rattle.below.specs.Below.{all_below, join_below, list_below}
@@ -375,3 +376,25 @@ words_taken area s q i (suc n) l =
     take-suc rest n 0 k
     ∙ ap (λ (xs : List ℕ). xs ++ (get_or rest n 0 ∷ [])) (words_taken area s q i n (omega arith))
     ∙ ap (λ (x : ℕ). words_after area s q i n ++ (x ∷ [])) (get_or-drop (place s q (i + 1)) area n 0 ∙ ap (λ k. get_or area k 0) (place_after s q i n))
+
+-- ---- the words that a batch copies, one by one
+
+module _ (area out : List ℕ) (s q i : ℕ) where
+  pub copy_none : out ≡ words_after area s q i 0 ++ drop 0 out
+  unfolding words_after list_below join_below
+  copy_none = refl
+
+  pub copy_more : (m : List ℕ) (j : ℕ) → j < length out → m ≡ words_after area s q i j ++ drop j out
+      → set m j (get_or area (place s q (i + 1) + j) 0) ≡ words_after area s q i (j + 1) ++ drop (j + 1) out
+  unfolding words_after list_below join_below place
+  copy_more m j l h =
+      let w = words_after area s q i j in
+      let v = get_or area (s * 1024 + q * 128 + (i + j + 1) - 1) 0 in
+      let p : s * 1024 + q * 128 + (i + 1) - 1 + j ≡ s * 1024 + q * 128 + (i + j + 1) - 1 = omega arith in
+      ap (λ k. set m j (get_or area k 0)) p
+      ∙ ap (λ k. set k j v) (h ∙ ap (λ k. w ++ k) (drop-cons out j 0 l))
+      ∙ set_at w (get_or out j 0) (drop (suc j) out) v j (words_length area s q i j)
+      ∙ subst (λ n. w ++ (v ∷ drop (suc j) out) ≡ words_after area s q i n ++ drop n out) (sym (add-one j)) (sym (append_assoc w (v ∷ []) (drop (suc j) out)))
+
+  pub copy_end : (m : List ℕ) (j n : ℕ) → j ≤ n → n ≤ j → m ≡ words_after area s q i j ++ drop j out → m ≡ words_after area s q i n ++ drop n out
+  copy_end m j n a b e = rw (le_antisymm a b) at e

@@ -57,8 +57,10 @@ fn copy_words(area: &[u64], slot: u8, q: u8, given: u8, count: u8, out: &mut [u6
     ensures { out.new ≡ words_after area.now slot q given count ++ drop count out.old }
 {
     let start = slots::place(slot, q, given + 1);
-    let count = count as usize;
-    out[..count].copy_from_slice(&area[start..start + count]);
+    // A loop: by copy_from_slice the archive would need memmove from outside.
+    for j in 0..count as usize {
+        out[j] = area[start + j];
+    }
 }
 
 impl EndPoint {

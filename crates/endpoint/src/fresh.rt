@@ -7,6 +7,7 @@ ghost use Rattle.endpoint.specs.Steps.{fresh_step};
 
 use crate::refusal::Refusal;
 use crate::{Answer, Change, EndPoint};
+use messages::Message;
 use records::Records;
 use slots::Slots;
 use views::{View, sets};
@@ -53,14 +54,18 @@ fn made(p: u8) -> EndPoint
 }
 
 impl EndPoint {
-    // Fresh end-point p; above 7 it is refused.
+    // Fresh end-point p; above 7 it is refused. A literal: by `accepted` and `refused` the end-point would be copied three times.
     #[tactic(auto, unfolding(crate::specs::Opened::stepped, crate::specs::Steps::fresh_step))]
     pub fn fresh(p: u8) -> Answer
         ensures { result ≡ fresh_step p }
     {
-        if p > 7 {
-            return made(p).refused(Refusal::Unfit);
+        Answer {
+            ep: made(p),
+            message: Message::blank(0),
+            view: View::none(),
+            word: 0,
+            number: if p > 7 { Refusal::Unfit.into() } else { 0 },
+            set: 0,
         }
-        made(p).accepted()
     }
 }

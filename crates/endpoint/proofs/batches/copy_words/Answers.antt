@@ -1,20 +1,21 @@
--- `copy_words` meets its contract. Assumes nothing.
-use Prim.Native.Nat.{ℕ, ◌+◌, ◌-◌, ◌≤◌}
+-- `copy_words` meets its contract: the words passed are at the front. Assumes nothing.
 use native.Mathlib.Omega.{arith}
-use mathlib.Core.List.{List, ◌++◌}
-use mathlib.Core.Path.{◌≡◌, ap, ◌∙◌}
-use lib.ListN.{length, drop}
-use Rattle.slots.specs.Slots.{place}
-use Rattle.endpoint.proofs.Batching.{words_taken}
+use mathlib.Core.Path.{refl, ◌∙◌}
+use Prim.Native.Nat.{◌<◌}
+use lib.ListN.{length, length-set}
+use Rattle.endpoint.proofs.Batching.{copy_none, copy_more, copy_end}
 use Rattle.endpoint.proofs.batches.copy_words.Goals as goal
 
+pub loop-j-init : goal.loop-j-init
+loop-j-init c = (refl, copy_none c.args.area.now c.args.out.now c.args.slot c.args.q c.args.given)
+
+pub loop-j-preserved : goal.loop-j-preserved
+loop-j-preserved c =
+    let j = c.loop-j.j in
+    let l : j < length c.args.out.now = omega (arith, c.requires.1.1.1.1, c.loop-j-test.true) in (
+      length-set c.loop-j.out j _ ∙ c.loop-j.invariant.0,
+      rw c.place-start.ensures (copy_more c.args.area.now c.args.out.now c.args.slot c.args.q c.args.given c.loop-j.out j l c.loop-j.invariant.1),
+    )
+
 pub returns : goal.returns
-unfolding place
-returns c =
-    let a = c.args in
-    let s = c.place-start.result in
-    let p = c.place-start.ensures in
-    let n : s + a.count - s ≡ a.count = omega arith in
-    let l : s + a.count ≤ length a.area.now = omega arith in
-    ap (λ (xs : List ℕ). xs ++ drop a.count a.out.now)
-    (c.copy_from_slice.ensures.after ∙ rw (n, p) (words_taken a.area.now a.slot a.q a.given a.count (rw p at l)))
+returns c = copy_end c.args.area.now c.args.out.now c.args.slot c.args.q c.args.given c.loop-j.out c.loop-j.j c.args.count c.loop-j.auto.j-end c.loop-j-test.false c.loop-j.invariant.1
