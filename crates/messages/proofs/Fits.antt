@@ -9,7 +9,7 @@ use mathlib.Core.Path.{◌≡◌, refl, sym, ap, ◌∙◌}
 use lib.Dec.{eqb, ltb, leb}
 use lib.ListN.{length, get_or}
 use lib.Seq.{sets}
-use borrow.Author.Tests.{eq-eqb, eqb-true, ltb-true, lt-ltb, leb-true, le-leb}
+use borrow.Author.Tests.{eq-eqb, eqb-true, ltb-true, lt-ltb, leb-true, leb-false, le-leb}
 use Rattle.below.specs.Below.{all_below, join_below, list_below}
 use Rattle.below.specs.Bits.{bit}
 use Rattle.below.proofs.All.{all_each, all_of}
@@ -181,15 +181,15 @@ module _ (fs : List ℕ) (kind : Kind) (t : IsTestedAs fs kind) where
         let p = unwritten_malformed fs area long f in
         record { number = p.0; left = p.1; reason = rw (eq-eqb (length fs) 24 long, f) refl }
 
-    pub unroomed : (n : ℕ) → fields_are fs (code_of kind) ≡ true → length area < n → n ≡ length_of (code_of kind) → IsWritten {T = Unit {0}} (Err NoRoom) fs area area
+    pub unroomed : fields_are fs (code_of kind) ≡ true → leb (length_of (code_of kind)) (length area) ≡ false → IsWritten {T = Unit {0}} (Err NoRoom) fs area area
     unfolding is_row
-    unroomed n e h q =
+    unroomed e h =
         let f : (narrow fs && well_formed (message_of fs)) ≡ true = sym tests ∙ e in
-        let p = unwritten_short fs area n long h (q ∙ tested_long) in
+        let p = unwritten_short fs area (length_of (code_of kind)) long (leb-false (length_of (code_of kind)) (length area) h) tested_long in
         record { number = p.0; left = p.1; reason = rw (eq-eqb (length fs) 24 long, f) refl }
 
-    pub fits : (n : ℕ) → fields_are fs (code_of kind) ≡ true → n ≤ length area → n ≡ length_of (code_of kind) → Fits fs kind area
-    fits n e h q = record { fit = sym tests ∙ e; room = rw q at h }
+    pub fits : fields_are fs (code_of kind) ≡ true → leb (length_of (code_of kind)) (length area) ≡ true → Fits fs kind area
+    fits e h = record { fit = sym tests ∙ e; room = leb-true (length_of (code_of kind)) (length area) h }
 
 -- what a message that fits says of its fields
 pub fit_low : (fs : List ℕ) → (narrow fs && well_formed (message_of fs)) ≡ true → Narrow fs

@@ -1,7 +1,7 @@
 -- Numbers in bytes: where bytes stand in a longer list; a number's bytes read back; what is read has those bytes; a row and a view the same.
 -- In order: `Stands`, its laws; numbers; rows; views and cuts; lengths. Assumes nothing. The six kinds are in Trip.
 use Prim.Native.Nat.{ℕ, zero, suc, ◌+◌, ◌*◌, ◌/◌, ◌%◌, ◌^◌, ◌≤◌, ◌<◌}
-use native.Mathlib.Nat.{add-zero, pow-suc, mod-eq_of_lt, eq-or-lt_of_le}
+use native.Mathlib.Nat.{add-zero, zero-add, suc-add, pow-zero, pow-suc, pow-succ', one-mul, mul_assoc, div-one, div-div-eq-div-mul, mod-eq_of_lt, eq-or-lt_of_le}
 use native.Mathlib.Omega.{arith}
 use mathlib.Core.List.{List, [], ◌∷◌, ◌++◌}
 use mathlib.Core.Path.{◌≡◌, refl, sym, ap, ◌∙◌}
@@ -94,6 +94,20 @@ pub number_low : (w at : ℕ) (bs : List ℕ) → AreBytes bs → number_at w bs
 unfolding number_at
 number_low zero at bs h = omega arith
 number_low (suc w) at bs h = rw pow-suc (omega (arith, h at, number_low w (at + 1) bs h))
+
+-- a number of a + b bytes is one of a and one of b
+pub number_split : (a b at : ℕ) (bs : List ℕ) → number_at (a + b) bs at ≡ number_at a bs at + 256 ^ a * number_at b bs (at + a)
+unfolding number_at
+number_split zero b at bs = rw (zero-add b, add-zero, pow-zero, one-mul) (omega arith)
+number_split (suc a) b at bs =
+    let e : at + 1 + a ≡ at + suc a = omega arith in
+    let p : 256 ^ suc a * number_at b bs (at + suc a) ≡ 256 * (256 ^ a * number_at b bs (at + suc a)) = rw pow-succ' (mul_assoc 256 (256 ^ a) (number_at b bs (at + suc a))) in
+    rw (suc-add, number_split a b (at + 1) bs, e) (omega arith)
+
+pub le_split : (a b x : ℕ) → le (a + b) x ≡ le a x ++ le b (x / 256 ^ a)
+unfolding le
+le_split zero b x = rw (zero-add, pow-zero, div-one)
+le_split (suc a) b x = rw (suc-add, le_split a b (x / 256), pow-succ', ← div-div-eq-div-mul x 256 (256 ^ a))
 
 -- ---- rows
 

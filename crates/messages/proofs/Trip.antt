@@ -1,12 +1,13 @@
 -- Reading and writing are inverse, for all six kinds by one argument: a part that the kind has stands where the parts before it end.
 --   reads-back : what a well formed message writes reads as that message.
 --   reads_only : bytes that read are the bytes that their message writes, so nothing else is accepted.
--- In order: a part that may be there; what a well formed message lacks is blank; the two theorems. Assumes nothing.
+--   fields_follow : reading into a field area accepts what reads, and leaves that message's fields: so both speak of the calls on fields too.
+-- In order: a part that may be there; what a well formed message lacks is blank; the theorems. Assumes nothing.
 use Prim.Native.Nat.{ℕ, ◌+◌, ◌^◌, ◌<◌}
 use native.Mathlib.Nat.{add-zero}
 use mathlib.Core.Bool.{Bool, true, false, cond, ◌&&◌}
 use mathlib.Core.List.{List, ◌++◌}
-use mathlib.Core.Path.{◌≡◌, refl, sym, subst, ◌∙◌}
+use mathlib.Core.Path.{◌≡◌, refl, sym, ap, subst, ◌∙◌}
 use lib.Dec.{eqb}
 use lib.ListN.{length, get_or, replicate, get_or-replicate, length-append}
 use lib.Seq.{ext_get_or}
@@ -23,6 +24,7 @@ use Rattle.messages.specs.declared.Message.{Message}
 use Rattle.std.specs.Prelude.{Ok}
 use Rattle.messages.specs.Bytes.{le, number_at, view_body, view_at, cut_bytes, cut_at}
 use Rattle.messages.specs.Layouts.{has_number, has_place, has_view, has_cut, has_word, has_set, part, place_fits, blank_view, body, bytes_of, length_of, well_formed}
+use Rattle.messages.specs.Fields.{is_row, fields_of, read_number, fields_read}
 use Rattle.messages.specs.Codec.{after_number, after_place, after_view, after_cut, after_word, message_at, reads, refused, read_of}
 use Rattle.messages.proofs.Numbers.{AreBytes, Stands, stands_join, stands_left, stands_right, stands_whole, stands_self, le_length, le_reads, le_stands, ViewRange, CutRange, view_length, cut_length, view_reads, view_stands, cut_reads, cut_stands}
 use Rattle.messages.proofs.Tested.{kind_fits, PartsFit, parts_fit, bytes_length}
@@ -234,3 +236,23 @@ reads_only bs m h e = go (reads bs) refl e
     go : (b : Bool) → reads bs ≡ b → cond b (Ok read) refused ≡ Ok m → (well_formed m ≡ true) × (bytes_of m ≡ bs)
     go true t p = let q : read ≡ m = cc in subst (λ (x : Message). (well_formed x ≡ true) × (bytes_of x ≡ bs)) q (whole t)
     go false t p = absurd cc
+
+pub fields_follow : (bs fs : List ℕ) (m : Message) → is_row fs ≡ true → read_of bs ≡ Ok m → (read_number bs fs ≡ 0) × (fields_read bs fs ≡ fields_of m)
+unfolding read_of read_number fields_read
+fields_follow bs fs m r e = go (reads bs) refl e
+  where
+    read : Message
+    read = message_at bs (get_or bs 0 0)
+
+    go : (b : Bool) → reads bs ≡ b → cond b (Ok read) refused ≡ Ok m → (read_number bs fs ≡ 0) × (fields_read bs fs ≡ fields_of m)
+    go true t p = let q : read ≡ m = cc in rw (r, t) (refl, ap fields_of q)
+    go false t p = absurd cc
+
+pub fields_refused : (bs fs : List ℕ) → read_of bs ≡ refused → (read_number bs fs ≡ 1) × (fields_read bs fs ≡ fs)
+unfolding read_of read_number fields_read
+fields_refused bs fs e = go (is_row fs) (reads bs) refl refl e
+  where
+    go : (a b : Bool) → is_row fs ≡ a → reads bs ≡ b → cond b (Ok (message_at bs (get_or bs 0 0))) refused ≡ refused → (read_number bs fs ≡ 1) × (fields_read bs fs ≡ fs)
+    go true true s t p = absurd cc
+    go true false s t p = rw (s, t) (refl, refl)
+    go false b s t p = rw s (refl, refl)

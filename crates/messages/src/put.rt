@@ -19,6 +19,7 @@ pub(crate) fn put_byte(area: &mut [u8], at: usize, x: u8)
     area[at] = x;
 }
 
+#[tactic(auto, using(crate::proofs::Parts::number_bytes))]
 pub(crate) fn put_number(area: &mut [u8], at: usize, number: u32)
     requires { at + 4 ≤ length area.old }
     ensures { area.new ≡ sets area.old at (le 4 number) }

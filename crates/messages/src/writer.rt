@@ -1,5 +1,6 @@
 // A message written from a field area straight into bytes, kind by kind. All fields are taken before the first byte is stored.
-ghost use Rattle.std.specs.Prelude.{◌≡◌, ◌⊎◌, IfErr, OnOk, OnErr, get_or};
+ghost use Rattle.std.specs.Prelude.{◌≡◌, ◌⊎◌, IfErr, OnOk, OnErr, get_or, leb, length};
+ghost use Rattle.messages.specs.Layouts.{length_of};
 ghost use Rattle.messages.specs.declared.kind.Kind.TheVariants.{View, Word, Sync, Forward, StartChange, MembershipView};
 ghost use Rattle.messages.specs.Kinds.{code_of};
 ghost use Rattle.messages.specs.Fields.{number_written, area_written};
@@ -9,6 +10,14 @@ use crate::fit::fields_are;
 use crate::put::{put_byte, put_cut, put_number, put_view, put_word};
 use crate::take::{cut_of, view_of};
 use crate::{Fields, Kind, Refusal};
+
+// Whether the area has room for a message of this kind.
+#[inline(always)]
+fn has_room(area: &[u8], kind: Kind) -> bool
+    ensures { result ≡ leb (length_of (code_of kind)) (length area.now) }
+{
+    usize::from(kind.length()) <= area.len()
+}
 
 // Whether the fields are a message that the area has room for. Each call names the kind, so that the compiler leaves only its tests, where it is inlined.
 #[inline(always)]
@@ -20,7 +29,7 @@ fn test(fields: &Fields, kind: Kind, area: &[u8]) -> Result<(), Refusal>
     if !fields_are(fields, kind) {
         return Err(Refusal::Malformed);
     }
-    if area.len() < usize::from(kind.length()) {
+    if !has_room(area, kind) {
         return Err(Refusal::NoRoom);
     }
     Ok(())

@@ -75,9 +75,10 @@ impl View {
     }
 
     // Whether two views are the same: all three parts are.
+    #[tactic(auto, using(below::proofs::Tests::picks, crate::proofs::Sameness::starts_tested), unfolding(crate::specs::Views::same))]
     pub fn same(self, other: View) -> bool
         ensures { result ≡ same_of self other }
     {
-        self == other
+        self.id == other.id && self.set == other.set && self.starts == other.starts
     }
 }
